@@ -26,22 +26,26 @@ def output(*words: object, **options: Any) -> str:
         RUNNING.add(process)
         try:
             printed = str(process.communicate(timeout=900)[0])
-        except BaseException:
-            process.terminate()
-            with contextlib.suppress(subprocess.TimeoutExpired):
-                process.wait(10)
-            raise
         finally:
             RUNNING.discard(process)
-            with contextlib.suppress(ProcessLookupError):
-                os.killpg(process.pid, signal.SIGKILL)
+            end(process)
     if process.returncode:
         raise Failed(f"{words[0]}: status {process.returncode}\n{printed[-2000:].strip()}")
     return printed
 
 
+def end(*processes: "subprocess.Popen[str]") -> None:
+    """Ends these with all that they started."""
+    for process in processes:
+        process.terminate()
+    for process in processes:
+        with contextlib.suppress(subprocess.TimeoutExpired):
+            process.wait(10)
+        with contextlib.suppress(ProcessLookupError):
+            os.killpg(process.pid, signal.SIGKILL)
+
+
 def end_all() -> None:
     """Ends the programs whose output other threads wait for, and lets them begin no other."""
     ENDING.set()
-    for process in [*RUNNING]:
-        process.terminate()
+    end(*RUNNING)

@@ -1,20 +1,24 @@
-"""tools/package: the packages of a program that only tells its version, and what they contain."""
+"""tools/package: the packages of a program that only tells its version, and what they contain. tools/check-package ends
+with all that it runs side by side."""
+import concurrent.futures
 import os
 import pathlib
 import re
 import shutil
 import subprocess
 import sys
+import threading
 from typing import Any
 
 import pytest
-from conftest import ROOT, script, tool
+from conftest import ROOT, eventually, script, tool
 
 sys.path[:0] = [str(ROOT / "packaging"), str(ROOT / "plant" / "src")]
 import documents  # noqa: E402
 import hilpoven  # noqa: E402
 import versions  # noqa: E402
 from checking.parts import packages_of  # noqa: E402
+from packages import RUNNING, Failed, end_all, output  # noqa: E402
 
 LIBRARIES = pathlib.Path("/opt/rattle/rattle")
 USAGE = f"toll {hilpoven.VERSION}, office format {hilpoven.OFFICE_VERSION}"
@@ -298,3 +302,23 @@ def test_the_licences_of_all_linked_libraries_are_in_the_copyright() -> Any:
             end = "Apache-2.0" if "Apache License" in text[:100] else plain(text)[-400:]
             wrong += [(file, words) for words in (library, *holders, end) if words not in copyright_text]
     assert wrong == []
+
+
+# The steps that tools/check-package runs side by side
+
+
+def test_what_threads_wait_for_ends_with_its_children_and_nothing_more_begins(
+    tmp_path: pathlib.Path, monkeypatch: pytest.MonkeyPatch
+) -> None:
+    monkeypatch.setattr("packages.ENDING", threading.Event())
+    lines = f"sleep 300 & echo $! > {tmp_path}/new; mv {tmp_path}/new {tmp_path}/pid; wait"
+    with concurrent.futures.ThreadPoolExecutor() as pool:
+        waiting = pool.submit(output, "sh", "-c", lines)
+        assert eventually((tmp_path / "pid").exists)
+        end_all()
+        with pytest.raises(Failed, match="status -15"):
+            waiting.result(60)
+    child = pathlib.Path("/proc", (tmp_path / "pid").read_text().strip(), "status")
+    assert not RUNNING and eventually(lambda: not child.exists() or "zombie" in child.read_text())
+    with pytest.raises(Failed, match="it was ended"):
+        output("true")
