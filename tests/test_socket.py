@@ -538,6 +538,19 @@ def test_while_sqlite_reads_the_file_that_a_server_lent_nothing_is_answered_or_w
         assert [line for line in server.lines() if line.startswith("fault")] == ["fault Disk began", "fault Disk ended"]
 
 
+def test_while_another_has_the_lock_of_a_reader_nothing_is_answered_or_written(at_work: Office) -> None:
+    # sqlite3 takes this lock too, but as root it changes a time of the log, so that the server opens the file anew
+    paths, lock = [pathlib.Path(at_work.db + end) for end in ("", "-wal")], (510, (1 << 30) + 2)
+    with at_work.serve() as server, open(at_work.db, "rb") as reader:
+        for order in ("O-2", "O-3"):
+            before = [path.read_bytes() for path in paths]
+            fcntl.lockf(reader, fcntl.LOCK_SH, *lock)
+            assert [server.ask(line) for line in (ORDERS, ORDER % order)] == [UNAVAILABLE, UNAVAILABLE]
+            assert [path.read_bytes() for path in paths] == before
+            fcntl.lockf(reader, fcntl.LOCK_UN, *lock)
+            assert server.ask(ORDER % order).startswith("200 ") and f'"{order}"' in server.ask(ORDERS)
+
+
 def test_bytes_that_others_wrote_in_place_are_read_if_the_time_of_writing_is_put_back(at_work: Office) -> None:
     file = pathlib.Path(at_work.db)
     CHECKPOINT(at_work.db)
