@@ -564,6 +564,15 @@ def test_bytes_that_others_wrote_in_place_are_read_if_the_time_of_writing_is_put
         assert not is_answered(server) and server.ask(ORDERS.replace("KEY1", "KEY2")).startswith("200 ")
 
 
+def test_a_server_that_was_started_with_the_file_open_lends_it(at_work: Office) -> None:
+    at_work.program = at_work.write("toll", f'#!/bin/sh\nexec {at_work.program} "$@" 3<{at_work.db}\n')
+    os.chmod(at_work.program, 0o755)
+    with at_work.serve() as server:
+        assert is_answered(server)
+        by_others(at_work, "INSERT INTO units VALUES ('U9')")
+        assert is_answered(server) and at_work.plant("unit-add", "U9").status == 1
+
+
 def test_a_log_is_served_again_once_its_byte_is_put_back(at_work: Office) -> None:
     with at_work.serve() as server:
         assert server.ask(ORDER % "O-2").startswith("200 ")
@@ -579,6 +588,9 @@ def test_a_log_is_served_again_once_its_byte_is_put_back(at_work: Office) -> Non
 IN_ORDER = {
     "a checkpoint": CHECKPOINT,
     "a commit behind the others in the log": shell(f"{KEEPING_LOG} \"INSERT INTO units VALUES ('U-8')\""),
+    "a commit and a checkpoint that keeps the log": shell(
+        f"{KEEPING_LOG} \"INSERT INTO units VALUES ('U-8')\" 'PRAGMA wal_checkpoint(PASSIVE)'"
+    ),
     "a new time of the log": shell("touch $FILE-wal"),
     "a checkpoint that was stopped behind the copying": begin_anew,
     "a copy by sqlite3": shell('sqlite3 $FILE ".backup $FILE.saved"'),
