@@ -1,18 +1,20 @@
 """The mark of a log's last commit in FILE.lock: what an opening says of a log that was cut or changed while no program
 had the file, and that nothing else makes it say so."""
+import errno
 import os
 import pathlib
 import random
 import shutil
 import subprocess
 import threading
+import time
 from collections.abc import Callable
 from typing import Any
 
 import pytest
 
-from tests.harness import ACCEPTED, KILLED_AFTER, KILLED_BEFORE, PATIENCE, TORN, UNAVAILABLE, Disk, Office, Server
-from tests.harness import content, fault, put
+from tests.harness import ACCEPTED, FAIL, KILLED_AFTER, KILLED_BEFORE, PATIENCE, TORN, UNAVAILABLE, Disk, Office
+from tests.harness import Result, Server, content, fault, put
 
 DAMAGED = fault("Damaged")
 ORDER = '> ACME ACMEKEY1 POST /orders {"order":"N-%d","recipe":"R","batches":1}'
@@ -377,3 +379,57 @@ def test_a_kill_at_any_write_is_no_loss(disks: list[Disk], work: str, step: int)
     points += [(at, TORN) for at in writes if kinds[at - 1] == "w"]
     outcomes = {point: kill_at(office, work, *point) for point in points[::step]}
     assert {point: ended for point, ended in outcomes.items() if ended != "whole"} == {}
+
+
+def calls_of_idle(office: Disk) -> int:
+    """How many calls a server made, as soon as it makes no more."""
+    count = -1
+    while count < (made := len(office.calls())):
+        count = made
+        time.sleep(0.1)
+    return count
+
+
+def test_a_commit_whose_sync_failed_is_not_marked(disks: list[Disk], work: str) -> None:
+    office, log = disks[0], log_of(disks[0])
+
+    def take_two(failing: int) -> tuple[int, int]:
+        """Has a server take two orders, and fails this call of the second, if any. How many calls came before it, and
+        the log's frames then, or none if it was answered."""
+        put(work, office.db)
+        office.disturb(0, FAIL, errno.EIO)
+        with office.serve(office.env) as server:
+            assert server.ask(ORDER % 0).startswith("200 ")
+            calls, frames = calls_of_idle(office), frames_in(log.read_bytes())
+            office.aim(calls + failing if failing else 0, FAIL)
+            is_answered = server.ask(ORDER % 1).startswith("200 ")
+        office.leave()
+        return calls, 0 if is_answered else frames
+
+    calls, _ = take_two(0)
+    sync, were_unsynced = office.calls().index("s", calls) + 1 - calls, 0
+    for failing in range(sync - 2, sync + 3):  # as many looks come before it as the server waits
+        _, frames = take_two(failing)
+        if frames and frames_in(log.read_bytes()) > frames:
+            os.truncate(log, 32 + frames * FRAME_BYTES)  # as a power cut may
+            assert outcome(office, 1, by_server=True) == "whole"
+            were_unsynced += 1
+    assert were_unsynced
+
+
+@pytest.mark.parametrize("most", [12, pytest.param(1000, marks=pytest.mark.long)])
+def test_a_marked_log_that_cannot_be_opened_or_read_is_no_loss(disks: list[Disk], work: str, most: int) -> None:
+    office = disks[0]
+
+    def answer_while_failing(at: int) -> Result:
+        """What a command says of a log that a killed server marked, while this call over the files fails."""
+        put(work, office.db)
+        place_orders(office, 3)
+        office.disturb(at, FAIL, errno.EIO)
+        return office.plant("orders", "ACME", env=office.env)
+
+    wanted = answer_while_failing(0)
+    points = [at for at, kind in enumerate(office.calls(), 1) if kind in "or"][:most]
+    assert wanted.status == 0 and points
+    answers = {at: answer_while_failing(at) for at in points}
+    assert {at: said for at, said in answers.items() if said not in (wanted, fault("Disk"), fault("Locked"))} == {}
