@@ -433,3 +433,21 @@ def test_a_marked_log_that_cannot_be_opened_or_read_is_no_loss(disks: list[Disk]
     assert wanted.status == 0 and points
     answers = {at: answer_while_failing(at) for at in points}
     assert {at: said for at, said in answers.items() if said not in (wanted, fault("Disk"), fault("Locked"))} == {}
+
+
+@pytest.mark.parametrize("step", [7, pytest.param(1, marks=pytest.mark.long)])
+def test_a_mark_stays_if_the_log_could_not_be_taken_into_the_file(disks: list[Disk], work: str, step: int) -> None:
+    office = disks[0]
+
+    def has_lost_mark(at: int) -> bool:
+        """Whether a command whose call over the files fails leaves a log without its mark."""
+        put(work, office.db)
+        place_orders(office, 3)
+        office.disturb(at, FAIL, errno.EIO)
+        office.plant("orders", "ACME", env=office.env)
+        has_log = log_of(office).exists() and frames_in(log_of(office).read_bytes()) > 0
+        return has_log and lock_of(office).stat().st_size == 0
+
+    assert not has_lost_mark(0)
+    points = [at for at, kind in enumerate(office.calls(), 1) if kind in "wst"]
+    assert points and [at for at in points[::step] if has_lost_mark(at)] == []
