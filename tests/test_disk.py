@@ -14,6 +14,7 @@ import pathlib
 import signal
 import socket
 import sqlite3
+import stat
 import time
 from collections.abc import Callable, Iterator
 from typing import NamedTuple
@@ -154,6 +155,18 @@ def test_a_fault_that_no_stream_takes_goes_into_no_file(at_work: Office) -> None
         fcntl.flock(lock, fcntl.LOCK_EX)
         assert at_work.plant("unit-add", "U2", closed="2>&-") == Result(3, "")
     assert os.path.getsize(f"{at_work.db}.lock") == 0 and content(at_work.db) == before
+
+
+def test_files_that_are_made_are_their_users_alone_whatever_the_umask(new: New) -> None:
+    office = new()
+    office.program = office.write("toll", f'#!/bin/sh\numask 0\nexec {office.program} "$@"\n')
+    os.chmod(office.program, 0o755)
+    assert office.plant("owner-add", "ACME", "ACMEKEY1") == ACCEPTED
+    with office.serve() as server:
+        assert server.ask("> ACME ACMEKEY1 GET /stock").startswith("200 ")
+        paths = [path for path in pathlib.Path(office.folder).iterdir() if path.name != "toll"]
+        assert {path.name[len("office.db") :] for path in paths} == {"", "-wal", ".lock", ".sock"}
+        assert {stat.S_IMODE(path.stat().st_mode) for path in paths} == {0o600}
 
 
 def test_a_file_that_was_moved_away_from_its_log_is_refused_and_is_whole_when_it_is_back(at_work: Office) -> None:
