@@ -20,6 +20,7 @@ pub mod Growth
 pub mod Private
 pub mod Determined
 pub mod Served
+pub mod HeldReplies
 pub mod Serving
 pub mod OwnRuns
 pub mod PrintedLemmas

@@ -1,20 +1,15 @@
 -- Requests that are served, over any keep.
-use Rattle.std.proofs.Common.{OnErr, IsTrue, nat_eq, codes, ◌≡◌, ℕ, Bool, true, false, ◌&&◌, cond, List, [], Some, None, Result, Ok, Err, IfErr, IfOk, refl, sym, subst, inl, inr, ◌∙◌}
-use Rattle.toll_wire.proofs.Common.{Vec, starts_with, digits, false≢true, Bytes, History, IsLawful, Meaning, Content, CallEffect, IsReading, Represents, KeepFault, Memory, Request, OwnerReply, ReplyForbidden, ReplyRefused, has_owner_key, IsReply, IsValidOwnerRequest, after_reply, is_granted, may_change, writes, finished, reply_text, Forbidden, IfOk-weaker, owner_steps, Calls, IsKeepStep, IsStepFrom, StoreEffect, calls_of, Text, Unavailable, fault_or_memory, text_of_failure, text_of_reply_meaning, text_if_reply, ClaimedRequest, Asks, Fails, Saying, By, Nobody, IsTold, MayBeReply, after_saying, IfPlacedBefore, IfSayingUnchanging, IsReplyWhere, IsGranted, IsSayingStep, IsFaultMet, SayingCalls, saying_steps}
-use Rattle.toll_base.specs.declared.decision.Change.{Change}
+use Rattle.std.proofs.Common.{OnErr, IsTrue, nat_eq, codes, ◌≡◌, ℕ, Bool, true, false, ◌&&◌, cond, [], Some, None, Result, Ok, Err, IfErr, refl, sym, subst, inl, inr}
+use Rattle.toll_wire.proofs.Common.{Vec, starts_with, digits, false≢true, Bytes, History, IsLawful, Meaning, Content, IsReading, Represents, KeepFault, Memory, Request, OwnerReply, ReplyForbidden, ReplyRefused, has_owner_key, is_granted, may_change, writes, reply_text, Forbidden, Calls, IsKeepStep, IsStepFrom, StoreEffect, calls_of, Text, Unavailable, fault_or_memory, text_of_failure, text_of_reply_meaning, text_if_reply, ClaimedRequest, Asks, Fails, Saying, By, Nobody, IsTold, MayBeReply, after_saying, IfPlacedBefore, IfSayingUnchanging, IsReplyWhere, IsGranted, IsSayingStep, IsFaultMet, SayingCalls, saying_steps}
 use Rattle.toll_keep.proofs.Calls.{Rests, answered, failed_call, goes_fault, goes_memory, kept_as, kept_fault, kept_memory, read_memory, settles_still}
 use Rattle.toll_keep.specs.CallEffects.{Keeps}
-use Rattle.toll_keep.specs.HeldFor.{KeepsHeld, KeepsOneMore}
-use Rattle.toll_desk.specs.Clauses.{IfUnchanging, OverContentRows}
-use Rattle.toll_desk.specs.Outcome.{CommitEffect}
-use Rattle.toll_desk.specs.Plans.{IsPlan}
+use Rattle.toll_keep.specs.HeldFor.{KeepsHeld}
 use Rattle.toll_desk.specs.Reads.{Over}
-use Rattle.toll_desk.proofs.CommitLemmas.{and_false, commit_step, goes_on}
-use Rattle.toll_desk.proofs.OwnerPlans.{lawful_after_reply}
-use Rattle.toll_desk.proofs.StepLemmas.{step_as, store_of}
+use Rattle.toll_desk.proofs.CommitLemmas.{and_false}
+use Rattle.toll_desk.proofs.StepLemmas.{store_of}
 use Rattle.toll_protocol.specs.declared.http_messages.failure.Failure.{Failure}
 use Rattle.toll_wire.specs.declared.outgoing.Out.{Out}
-use Rattle.toll_wire.specs.OutTexts.{IsText, out_of, text_if}
+use Rattle.toll_wire.specs.OutTexts.{IsText, out_of}
 use Rattle.toll_wire.specs.Steps.{IsAnsweredKeeping}
 
 -- ---- texts
@@ -27,7 +22,7 @@ granted_text (ReplyRefused why) granted = absurd (false≢true granted)
 granted_text _ granted = refl
 
 -- so what doesn't say 200 grants no change
-grants_none : (q : Request) (reported : OwnerReply) (text : Vec ℕ) → text.items ≡ text_of_reply_meaning reported → ¬ (IsGranted (Text text))
+pub grants_none : (q : Request) (reported : OwnerReply) (text : Vec ℕ) → text.items ≡ text_of_reply_meaning reported → ¬ (IsGranted (Text text))
     → may_change q (Ok reported) ≡ false
 grants_none q reported text is not = by_grant (is_granted (Ok reported)) refl
   where
@@ -41,7 +36,7 @@ so_of_reply (Text reported) text P is so = subst P (sym is) so
 so_of_reply Unavailable text P is so = tt
 
 -- what is so at all is so if the saying is to change nothing
-so_unchanging : (c : Content) (saying : Saying) (out : Out) (P : Type 0) → P → IfSayingUnchanging c saying out P
+pub so_unchanging : (c : Content) (saying : Saying) (out : Out) (P : Type 0) → P → IfSayingUnchanging c saying out P
 so_unchanging c saying out P p = record { asks = λ none. p; quiet = λ not. p; once = so_again saying }
   where
     so_again : (saying : Saying) → IfPlacedBefore c saying P
@@ -157,71 +152,6 @@ module _ {K : Type 0} (meaning : Meaning K) where
         still_step old new (By o (Some key) (Fails (text_of_failure failure))) (Text text) (Some (Ok tt)) refl (read_store (answered x) reads) reads.keeps
         (b, tt, is) (λ now c H held stands lawful. ((b, admits now c H held stands lawful, is), refl))
 
-  -- ---- after a plan
-
-  module _ (old new : K) (o key : Bytes) (q : Request) (text : Vec ℕ) where
-    abbrev asking : Saying
-    asking = By o (Some key) (Asks q)
-
-    -- The owner's step is that of its request, if the text of the reply is there before its changes are made.
-    owner_step_told : (planned : Result OwnerReply KeepFault) → IsText (Text text) (text_if_reply planned) → (made : Result (Unit {0}) KeepFault)
-        → IsKeepStep meaning (owner_steps o key) old q (finished planned made) new → Serves old new asking (text_if text made)
-    owner_step_told (Ok reported) is (Ok done) step = record {
-      outcome = step.outcome;
-      calls = ((reported, tt, is), step.calls);
-      store = step.store;
-      still = λ now c held. let still = step.still now c held in record {
-        asks = λ none. still.quiet (rw none refl);
-        quiet = λ not. still.quiet (grants_none q reported text is not);
-        once = still.once;
-      };
-      over = λ now c H held stands lawful.
-          step_as meaning (owner_steps o key).step (owner_steps o key).may_make saying_steps.step saying_steps.may_make old new c H q (Ok reported)
-          asking (Text text) (λ G step. ((reported, step.1.0, is), step.1.1)) (λ G makes. makes) (step.over now c H held stands lawful);
-    }
-    owner_step_told (Ok reported) is (Err fault) step = record {
-      outcome = step.outcome;
-      calls = (tt, (fault, step.calls));
-      store = step.store;
-      still = λ now c held. so_unchanging c asking Unavailable (meaning.holds new c) ((step.still now c held).quiet (and_false (writes q)));
-      over = λ now c H held stands lawful.
-          step_as meaning (owner_steps o key).step (owner_steps o key).may_make saying_steps.step saying_steps.may_make old new c H q (Err fault)
-          asking Unavailable (λ G step. step.1) (λ G makes. makes) (step.over now c H held stands lawful);
-    }
-    owner_step_told (Err fault) is made step = absurd is
-
-  -- a plan with a text, and then its changes, which are read through a reference
-  module _ (old middle new : K) (o key : Bytes) (q : Request) (planned : Result OwnerReply KeepFault) (changes made : List Change) (same : made ≡ changes)
-      (reads : IsReading meaning old middle planned) (text : Vec ℕ) (is : IsText (Text text) (text_if_reply planned)) (result : Result (Unit {0}) KeepFault)
-      (commit : CommitEffect meaning middle new made result) where
-    pub plan_told : Rests meaning → IsValidOwnerRequest q → IfUnchanging (OverContentRows meaning old middle o) q planned (changes ≡ [])
-        → Over meaning old middle (λ c H. IfOk planned (λ reported. IsPlan c H o key q reported changes))
-        → Serves old new (By o (Some key) (Asks q)) (text_if text result)
-    plan_told rests valid idle plan =
-        owner_step_told old new o key q text planned is result
-        (commit_step meaning rests old middle new planned (finished planned result) changes made result same refl reads commit
-        (may_change q) (λ fault. and_false (writes q)) idle.quiet
-        (IsReply o key) (after_reply o key) q (λ H lawful. lawful_after_reply o key H q lawful valid)
-        (λ honest c H held stands lawful. IfOk-weaker planned _ _ (λ x plan. (plan.reply, plan.leads)) (plan honest c H held stands lawful)) _ refl _
-        (λ honest c held P stays none. record {
-          quiet = stays;
-          once = λ placing asks there. none (idle.once honest c held placing asks there);
-        }))
-
-    -- the fault that the making of the changes met
-    pub met_making : (fault : KeepFault) → result ≡ Err fault → IsFaultMet meaning old new fault
-    met_making fault failed = by_plan planned reads.goes is
-      where
-        by_plan : (planned : Result OwnerReply KeepFault) → CallEffect meaning old middle planned → IsText (Text text) (text_if_reply planned)
-            → IsFaultMet meaning old new fault
-        by_plan (Ok reported) goes is =
-            let makes = goes_on meaning old middle new (Ok reported) made result goes tt commit.idle commit.goes in
-            inr (
-              goes_fault meaning {X = OwnerReply} old new fault (subst (λ m. CallEffect meaning old new (finished {X = OwnerReply} (Ok reported) m)) failed makes),
-              λ now c held keeps damaged. commit.whole now c ((reads.keeps (commit.honest now)).content c held) keeps (failed ∙ damaged),
-            )
-        by_plan (Err failing) goes is = absurd is
-
   -- ---- what is held for others
 
   module _ (old new : K) where
@@ -239,8 +169,8 @@ module _ {K : Type 0} (meaning : Meaning K) where
     kept_answer (Ok text) kept = inl (Ok tt, refl, kept_as meaning old new text tt kept)
     kept_answer (Err fault) kept = inl (Err fault, (fault, refl), kept_fault meaning old new fault kept)
 
-    -- the making of changes keeps it, after a plan with a text
-    pub kept_making : (middle : K) (planned : Result OwnerReply KeepFault) (text : Vec ℕ) → IsText (Text text) (text_if_reply planned)
-        → (made : Result (Unit {0}) KeepFault) → KeepsHeld meaning old middle planned → KeepsOneMore meaning middle new made → KeepsHeld meaning old new made
-    kept_making middle (Ok reported) text is made kept more = more old (kept_as meaning old middle reported tt kept)
-    kept_making middle (Err fault) text is made kept more = absurd is
+    -- so does one with a text, whatever is held back with it
+    pub kept_told : {Y : Type 0} (planned : Result OwnerReply KeepFault) (text : Vec ℕ) → IsText (Text text) (text_if_reply planned) → KeepsHeld meaning old new planned
+        → (y : Y) → KeepsHeld meaning old new (answered y)
+    kept_told (Ok reported) text is kept y = kept_as meaning old new reported y kept
+    kept_told (Err fault) text is kept y = absurd is

@@ -12,6 +12,7 @@ pub mod ReplyTexts
 pub mod OutTexts
 pub mod Sayings
 pub mod Steps
+pub mod Held
 pub mod Parts
 pub mod OfficeRuns
 pub mod Printed

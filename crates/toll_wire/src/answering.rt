@@ -1,24 +1,25 @@
 //! Answering a request.
-ghost use Rattle.std.specs.Prelude.{◌≡◌, List, Contains, IfErr, Some};
+ghost use Rattle.std.specs.Prelude.{List, [], Contains, IfErr, Some};
 ghost use Rattle.toll_answers.specs.Replies.{IsValidOwnerRequest};
 ghost use Rattle.toll_base.specs.Bytes.{Bytes};
 ghost use Rattle.toll_keep.specs.HeldFor.{KeepsHeld};
 ghost use Rattle.toll_keep.specs.Meaning.{meaning_for};
 ghost use Rattle.toll_desk.specs.Steps.{IsKeepStep};
-ghost use Rattle.toll_desk.specs.Translations.{meaning_of_reply};
 ghost use Rattle.toll_protocol.specs.Parsed.{parse_outcome};
 ghost use Rattle.toll_protocol.specs.Parsing.{IsParsedAs};
+ghost use Rattle.toll_wire.specs.Held.{IsHolding};
 ghost use Rattle.toll_wire.specs.OutTexts.{out_of};
-ghost use Rattle.toll_wire.specs.ReplyTexts.{fault_or_memory, text_of_failure};
+ghost use Rattle.toll_wire.specs.ReplyTexts.{text_of_failure};
 ghost use Rattle.toll_wire.specs.Sayings.{AreOfOneOf, Asks, By, Fails};
 ghost use Rattle.toll_wire.specs.Steps.{IsAnswered, IsAnsweredKeeping, IsFaultMet, saying_steps};
 
+use crate::holding::hold;
 use crate::outgoing::Out;
-use crate::reply::{fail, reply_out};
+use crate::reply::fail;
 use crate::routes::{OfficeRouter, route_request};
 use std::alloc::Global;
 use toll_base::Request;
-use toll_desk::{Reply, admit, commit, owner_plan};
+use toll_desk::{admit, commit};
 use toll_keep::{Keep, KeepFault};
 use toll_protocol::{Failure, HttpRequest, parse_http};
 
@@ -94,28 +95,17 @@ fn serve<K: Keep>(
     ensures others { (os : List Bytes) → ¬ (Contains os owner.now) → KeepsHeld (meaning_for K.meaning K.part os) keep.old keep.new result }
     ensures met { IfErr result (IsFaultMet K.meaning keep.old keep.new) }
 {
-    let planned = owner_plan(alloc, keep, owner, key, request);
-    match reply_out(alloc, &planned.reply) {
-        Out::Unavailable => Err(fault_of(&planned.reply)),
-        Out::Text(text) => match commit(alloc, keep, &planned.changes) {
-            Ok(()) => Ok(text),
+    match hold(alloc, keep, owner, key, request) {
+        Ok(held) => match commit(alloc, keep, &held.changes) {
+            Ok(()) => Ok(held.text),
             Err(fault) => Err(fault),
         },
-    }
-}
-
-// The fault of a reply without a text: that of the keep, or that there was no memory for the text.
-fn fault_of(reply: &Reply) -> KeepFault
-    ensures { result ≡ fault_or_memory (meaning_of_reply reply.now) }
-{
-    match reply {
-        Reply::Fault(fault) => *fault,
-        _ => KeepFault::Memory,
+        Err(fault) => Err(fault),
     }
 }
 
 // Replies to an owner which check the request fails, and to every other client only that it is forbidden.
-fn refuse<K: Keep>(
+pub(crate) fn refuse<K: Keep>(
     alloc: Global,
     keep: &mut K,
     owner: &[u8],
@@ -127,6 +117,9 @@ fn refuse<K: Keep>(
         (By owner.now (Some key.now) (Fails (text_of_failure failure))) (out_of result) keep.new }
     ensures others { (os : List Bytes) → KeepsHeld (meaning_for K.meaning K.part os) keep.old keep.new result }
     ensures met { IfErr result (IsFaultMet K.meaning keep.old keep.new) }
+    ensures holds { IsHolding K.meaning keep.old keep.new (By owner.now (Some key.now) (Fails (text_of_failure failure))) result [] }
+    ensures held { (os : List Bytes) → IsHolding (meaning_for K.meaning K.part os) keep.old keep.new
+        (By owner.now (Some key.now) (Fails (text_of_failure failure))) result [] }
 {
     match admit(alloc, keep, owner, key) {
         Ok(Some(_)) => fail(alloc, failure).into_text(),

@@ -5,6 +5,7 @@
 mod answering;
 mod bodies;
 mod event;
+mod holding;
 mod laws;
 mod outgoing;
 mod reply;
@@ -17,6 +18,7 @@ pub use bodies::{
     stock_body, trace_body,
 };
 pub use event::{Answer, Event};
+pub use holding::{HeldReply, hold_with_router};
 pub use laws::{
     a_part_alone_gives_one_list_of_replies, an_owners_traces_are_replied_byte_for_byte,
     answers_are_determined, any_two_keeps_answer_alike, bytes_say_one_thing,

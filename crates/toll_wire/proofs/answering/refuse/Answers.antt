@@ -5,6 +5,7 @@ use Rattle.toll_wire.proofs.Common.{text_of_failure, By, Fails, IsKeepStep, IsFa
 use Rattle.toll_answers.specs.Replies.{has_owner_key}
 use Rattle.toll_desk.proofs.OwnerPlans.{right_key, wrong_key}
 use Rattle.toll_wire.proofs.Served.{met_memory, met_reading, untold, served_refused}
+use Rattle.toll_wire.proofs.HeldReplies.{held_nothing}
 use Rattle.toll_wire.proofs.answering.refuse.Goals as goal
 
 pub returns-in-Ok-Some-clause-serves : goal.returns-in-Ok-Some-clause-serves
@@ -74,3 +75,7 @@ pub returns-in-Err-clause-others : goal.returns-in-Err-clause-others
 returns-in-Err-clause-others g c = λ os.
     let m = meaning_for g.K.Keep.meaning g.K.Keep.part os in
     kept_fault m c.args.keep.now c.admit.new.keep c.in-Err.fault (kept_of m (c.in-Err.ensures.alone os))
+
+pub returns-in-Err-clause-held : goal.returns-in-Err-clause-held
+returns-in-Err-clause-held g c = λ os.
+    held_nothing (meaning_for g.K.Keep.meaning g.K.Keep.part os) c.args.keep.now c.admit.new.keep c.args.owner.now c.args.key.now (Fails (text_of_failure c.args.failure)) _ (c.in-Err.ensures.alone os)
