@@ -21,6 +21,7 @@ pub mod Private
 pub mod Determined
 pub mod Served
 pub mod HeldReplies
+pub mod Apart
 pub mod Serving
 pub mod OwnRuns
 pub mod PrintedLemmas
