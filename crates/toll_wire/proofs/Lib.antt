@@ -22,6 +22,8 @@ pub mod Determined
 pub mod Served
 pub mod HeldReplies
 pub mod Apart
+pub mod GroupSteps
+pub mod GroupHeld
 pub mod Serving
 pub mod OwnRuns
 pub mod PrintedLemmas

@@ -13,6 +13,7 @@ pub mod OutTexts
 pub mod Sayings
 pub mod Steps
 pub mod Held
+pub mod Groups
 pub mod Parts
 pub mod OfficeRuns
 pub mod Printed

@@ -11,6 +11,7 @@ mod outgoing;
 mod reply;
 mod routes;
 mod run;
+mod together;
 
 pub use answering::{answer, answer_with_router, reply_by_router};
 pub use bodies::{
@@ -33,4 +34,5 @@ pub use routes::{
     each_request_has_its_route, route_request,
 };
 pub use run::run_events;
+pub use together::{GroupEnd, answer_together};
 pub use toll_protocol::{ReadFault, WriteFault, read_request, write_whole as write_reply};
