@@ -1,9 +1,10 @@
 -- Replies whose changes are held back, and these changes once they are made.
-use Rattle.std.proofs.Common.{◌≡◌, ℕ, Bool, true, false, cond, is_ok, List, [], MatchBool, Some, None, Result, Ok, Err, IfErr, IfOk, refl, sym, subst, subst₂}
+use Rattle.std.proofs.Common.{◌≡◌, ℕ, Bool, true, false, cond, is_ok, List, [], MatchBool, Some, None, Result, Ok, Err, IfErr, IfOk, refl, sym, subst, subst₂, inl, inr}
 use Rattle.toll_wire.proofs.Common.{Vec, false≢true, Bytes, History, Meaning, Content, IsReading, KeepFault, Memory, Request, OwnerReply, ReplyForbidden, has_owner_key, IsReply, IsValidOwnerRequest, may_change, writes, finished, IfOk-weaker, IsKeepStep, calls_of, Text, Unavailable, fault_or_memory, text_of_failure, Forbidden, text_if_reply, ClaimedRequest, Asks, Fails, Saying, By, Nobody, IsTold, MayBeReply, after_saying, IfSayingUnchanging, saying_steps}
 use Rattle.toll_base.specs.declared.decision.Change.{Change}
 use Rattle.toll_history.specs.OwnChanges.{PutsOnly}
-use Rattle.toll_keep.proofs.Calls.{Rests, answered, read_fault, read_memory, read_ok}
+use Rattle.toll_keep.proofs.Calls.{Rests, answered, kept_as, kept_fault, read_fault, read_memory, read_ok}
+use Rattle.toll_keep.specs.HeldFor.{KeepsHeld}
 use Rattle.toll_desk.specs.Clauses.{IfUnchanging, OverContentRows}
 use Rattle.toll_desk.specs.Outcome.{CommitEffect}
 use Rattle.toll_desk.specs.Plans.{ChangesLeadTo, IsPlan}
@@ -14,7 +15,7 @@ use Rattle.toll_desk.proofs.OwnerPlans.{lawful_after_reply}
 use Rattle.toll_desk.proofs.SliceToContent.{leads_nowhere}
 use Rattle.toll_desk.proofs.StepLemmas.{step_as}
 use Rattle.toll_wire.specs.declared.outgoing.Out.{Out}
-use Rattle.toll_wire.specs.Held.{HoldCalls, IsHolding, PutsFor, changes_held, text_held}
+use Rattle.toll_wire.specs.Held.{HoldCalls, IsHolding, IsReadAtMost, PutsFor, changes_held, text_held}
 use Rattle.toll_wire.specs.declared.holding.HeldReply.{HeldReply}
 use Rattle.toll_wire.specs.OutTexts.{IsText, out_of, text_if}
 use Rattle.toll_wire.proofs.Served.{grants_none, so_unchanging}
@@ -123,6 +124,24 @@ module _ {K : Type 0} (meaning : Meaning K) (k : K) (text : Result (Vec ℕ) Kee
 pub held_alone : {K : Type 0} (meaning : Meaning K) (old new : K) (s : Saying) (text : Result (Vec ℕ) KeepFault) (result : Result HeldReply KeepFault)
     → text_held result ≡ text → changes_held result ≡ [] → IsHolding meaning old new s text [] → IsHolding meaning old new s (text_held result) (changes_held result)
 held_alone meaning old new s text result same none = subst₂ (λ text changes. IsHolding meaning old new s text changes) (sym same) (sym none)
+
+-- ---- what is held for others, and what is only read
+
+module _ {K : Type 0} (meaning : Meaning K) (old new : K) where
+  pub kept_alone : (text : Result (Vec ℕ) KeepFault) (result : Result HeldReply KeepFault) → text_held result ≡ text → KeepsHeld meaning old new text
+      → KeepsHeld meaning old new result
+  kept_alone text (Ok held) same kept = kept_as meaning old new held.text held (subst (KeepsHeld meaning old new) (sym same) kept)
+  kept_alone text (Err fault) same kept = kept_fault meaning old new fault (subst (KeepsHeld meaning old new) (sym same) kept)
+
+  pub read_alone : (text : Result (Vec ℕ) KeepFault) (result : Result HeldReply KeepFault) → text_held result ≡ text → IsReadAtMost meaning old new text
+      → IsReadAtMost meaning old new result
+  read_alone text result same read = by_result result (subst (IsReadAtMost meaning old new) (sym same) read)
+    where
+      by_result : (result : Result HeldReply KeepFault) → IsReadAtMost meaning old new (text_held result) → IsReadAtMost meaning old new result
+      by_result (Ok held) (inl still) = inl (still.0, tt)
+      by_result (Ok held) (inr reads) = inr (read_ok meaning old new held.text held reads.goes reads.keeps)
+      by_result (Err fault) (inl still) = inl still
+      by_result (Err fault) (inr reads) = inr (read_fault meaning old new fault reads.goes reads.keeps reads.whole)
 
 -- ---- the changes, once they are made
 

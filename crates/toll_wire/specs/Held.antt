@@ -5,6 +5,7 @@ use Rattle.toll_answers.specs.Replies.{has_owner_key}
 use Rattle.toll_base.specs.declared.decision.Change.{Change}
 use Rattle.toll_history.specs.OwnChanges.{PutsOnly}
 use Rattle.toll_keep.specs.CallEffects.{IsReading}
+use Rattle.toll_keep.specs.HeldFor.{KeepsHeld, PutsOutside}
 use Rattle.toll_keep.specs.Meaning.{OverContent}
 use Rattle.toll_desk.specs.Plans.{ChangesLeadTo}
 use Rattle.toll_desk.specs.Reads.{Over}
@@ -61,3 +62,11 @@ module _ {K : Type 0} (meaning : Meaning K) (old new : K) where
   abbrev pub IsHeldBack : Bytes → Result HeldReply KeepFault → Type 0
   IsHeldBack bytes result =
       ((saying : Saying) × Says bytes saying × IsHolding saying (text_held result) (changes_held result)) ⊎ ((result ≡ Err Memory) × (new ≡ old))
+
+  -- What is held for these owners stays, and the changes put rows of others; or there was no memory to read the bytes, and the keep is untouched.
+  abbrev pub IsHeldBackKeeping : List Bytes → Result HeldReply KeepFault → Type 0
+  IsHeldBackKeeping os result = (KeepsHeld meaning old new result × PutsOutside os (changes_held result)) ⊎ ((result ≡ Err Memory) × (new ≡ old))
+
+  -- The keep is only read; or it isn't called, and the only fault is that there was no memory.
+  abbrev pub IsReadAtMost : {X : Type 0} → Result X KeepFault → Type 0
+  IsReadAtMost result = ((new ≡ old) × IfErr result (λ fault. fault ≡ Memory)) ⊎ IsReading meaning old new result

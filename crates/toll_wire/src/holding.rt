@@ -7,7 +7,7 @@ ghost use Rattle.toll_keep.specs.Meaning.{meaning_for};
 ghost use Rattle.toll_desk.specs.Translations.{meaning_of_reply};
 ghost use Rattle.toll_protocol.specs.Parsed.{parse_outcome};
 ghost use Rattle.toll_protocol.specs.Parsing.{IsParsedAs};
-ghost use Rattle.toll_wire.specs.Held.{IsHeldBack, IsHolding, changes_held, text_held};
+ghost use Rattle.toll_wire.specs.Held.{IsHeldBack, IsHeldBackKeeping, IsHolding, IsReadAtMost, changes_held, text_held};
 ghost use Rattle.toll_wire.specs.ReplyTexts.{fault_or_memory};
 ghost use Rattle.toll_wire.specs.Sayings.{AreOfOneOf, Asks, By};
 
@@ -39,6 +39,9 @@ pub fn hold_with_router<K: Keep>(
     ensures held { (bytes : Bytes) → IsParsedAs bytes (parse_outcome parsed.entry) → IsHeldBack K.meaning keep.old keep.new bytes result }
     ensures alone { (os : List Bytes) (bytes : Bytes) → IsParsedAs bytes (parse_outcome parsed.entry) → AreOfOneOf os bytes
         → IsHeldBack (meaning_for K.meaning K.part os) keep.old keep.new bytes result }
+    ensures others { (os : List Bytes) (bytes : Bytes) → IsParsedAs bytes (parse_outcome parsed.entry) → ¬ (AreOfOneOf os bytes)
+        → IsHeldBackKeeping (meaning_for K.meaning K.part os) keep.old keep.new os result }
+    ensures reads { IsReadAtMost K.meaning keep.old keep.new result }
 {
     match parsed {
         Err(failure) => unchanging(alloc, fail(alloc, failure).into_text()),
