@@ -169,6 +169,21 @@ def test_files_that_are_made_are_their_users_alone_whatever_the_umask(new: New) 
         assert {stat.S_IMODE(path.stat().st_mode) for path in paths} == {0o600}
 
 
+@pytest.mark.parametrize("way", [KILLED_BEFORE, KILLED_AFTER])
+def test_an_office_whose_making_was_killed_is_made_by_the_next_command(disks: list[Disk], way: int) -> None:
+    words = ("unit-add", "U1")
+
+    def status_behind_a_kill(office: Disk, at: int) -> str:
+        put(None, office.db)
+        office.disturb(at, way)
+        office.plant(*words, env=office.env)
+        return str(office.plant(*words).status)
+
+    assert status_behind_a_kill(disks[0], 0) == "1"  # it is there already
+    points = [at for at, kind in enumerate(disks[0].calls(), 1) if kind in "owst"]
+    assert points and wrong_outcomes(disks, status_behind_a_kill, points, ("0", "1")) == {}
+
+
 def test_a_file_that_was_moved_away_from_its_log_is_refused_and_is_whole_when_it_is_back(at_work: Office) -> None:
     # the server that takes the order is killed, so that the order is in the log alone
     office, db = at_work, at_work.lay(f"> ACME ACMEKEY1 {NEW_ORDER}")
