@@ -28,7 +28,7 @@ from tests import socket_client as client
 from tests.attempts import Import, New
 from tests.harness import ACCEPTED, FAIL, KILLED_AFTER, KILLED_BEFORE, NO_NETWORK, PATIENCE, REPEATED, STOPPED_AT_MODE
 from tests.harness import UNAVAILABLE, Disk, Office, Result, Server
-from tests.harness import content, fault, meanwhile, put, serving, wrong_outcomes
+from tests.harness import content, eventually, fault, meanwhile, put, serving, wrong_outcomes
 from tests.lines import ACTUALS, many_actuals
 
 LOCKED, LOST, NOT_OURS, DAMAGED = (fault(name) for name in ("Locked", "Lost", "NotOurs", "Damaged"))
@@ -78,9 +78,16 @@ def has_socket(office: Office, unit: str = "U-BY-HAND") -> bool:
 
 @contextlib.contextmanager
 def locked(office: Office) -> Iterator[Any]:
-    """FILE's lock in other hands; it is released by closing it, too."""
+    """FILE's lock in other hands, which get it as soon as nobody has it; it is released by closing it, too."""
+
+    def is_taken() -> bool:
+        with contextlib.suppress(BlockingIOError):
+            fcntl.flock(lock, fcntl.LOCK_EX | fcntl.LOCK_NB)
+            return True
+        return False
+
     with open(f"{office.db}.lock", "a") as lock:
-        fcntl.flock(lock, fcntl.LOCK_EX)
+        assert eventually(is_taken), "the lock isn't given back"
         yield lock
 
 
