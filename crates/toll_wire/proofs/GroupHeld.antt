@@ -9,7 +9,7 @@ use Rattle.toll_base.specs.declared.decision.Change.{Change}
 use Rattle.toll_keep.proofs.Calls.{read_fault, read_memory, read_ok, reads_then}
 use Rattle.toll_protocol.proofs.Arrivals.{arrives_once}
 use Rattle.toll_protocol.specs.Parsing.{IsParsedAs}
-use Rattle.toll_wire.proofs.GroupSteps.{if_saying_follows}
+use Rattle.toll_wire.proofs.Served.{if_saying_follows}
 use Rattle.toll_wire.specs.Groups.{AreApart, AreHeld, AreHolding, AreSaid, IfAllUnchanging, IsGroup, IsUndone, MayBeReplies, comes_again, has_key, owner_in}
 use Rattle.toll_wire.specs.Held.{HoldCalls, IsHeld, IsHeldBack, IsHolding}
 use Rattle.toll_wire.specs.Sayings.{IsSaidBy}

@@ -1,7 +1,7 @@
 -- A group whose replies are held back is a run of its sayings, once the changes of all are made.
 use Rattle.std.proofs.Common.{◌≡◌, ℕ, suc, length, Bool, true, false, ◌||◌, is_ok, MatchBool, Some, None, List, [], ◌∷◌, map, Result, Ok, Err, refl, sym, ap, subst, inl, inr, ◌∙◌}
 use Rattle.std.specs.List.{list_any}
-use Rattle.toll_wire.proofs.Common.{Vec, AllByRecursion, false≢true, Bytes, same_bytes, History, IsLawful, Meaning, Content, CallEffect, IsReading, Represents, KeepFault, has_owner_key, finished, Calls, IsKeepStep, calls_of, Text, Unavailable, Asks, Fails, Saying, By, Nobody, Says, after_saying, claimed_in, claims, IfPlacedBefore, IfSayingUnchanging, IsSayingStep, IsRun}
+use Rattle.toll_wire.proofs.Common.{Vec, AllByRecursion, false≢true, Bytes, same_bytes, History, IsLawful, Meaning, Content, CallEffect, IsReading, Represents, KeepFault, has_owner_key, finished, Calls, IsKeepStep, calls_of, Text, Unavailable, Asks, Fails, Saying, By, Nobody, Says, after_saying, claimed_in, claims, IsSayingStep, IsRun}
 use Rattle.toll_base.specs.Changes.{after_changes}
 use Rattle.toll_base.specs.declared.decision.Change.{Change}
 use Rattle.toll_base.specs.declared.rows.OwnerRow.{OwnerRow}
@@ -11,7 +11,6 @@ use Rattle.toll_keep.proofs.StagedLemmas.{after_behind, fits_behind}
 use Rattle.toll_keep.specs.CallEffects.{Keeps}
 use Rattle.toll_keep.specs.Content.{after_owners, content_after}
 use Rattle.toll_desk.proofs.CommitLemmas.{commit_step, goes_on}
-use Rattle.toll_desk.proofs.OwnerPlans.{lawful_after_reply}
 use Rattle.toll_desk.proofs.SliceToContent.{leads_nowhere}
 use Rattle.toll_desk.proofs.StepLemmas.{step_as, store_uncalled}
 use Rattle.toll_desk.specs.Outcome.{CommitEffect}
@@ -20,20 +19,14 @@ use Rattle.toll_desk.specs.Reads.{Over}
 use Rattle.toll_desk.specs.Steps.{StepKind, answered_steps}
 use Rattle.toll_wire.proofs.Apart.{asked_alike, failed_alike, owners_kept, rows_missed}
 use Rattle.toll_wire.proofs.Growth.{part-after_saying}
-use Rattle.toll_wire.proofs.Served.{keeps_still, so_unchanging, still_from}
-use Rattle.toll_wire.proofs.Valid.{IsValidSaying, says_valid}
+use Rattle.toll_wire.proofs.Served.{if_saying_follows, keeps_still, so_unchanging, still_from}
+use Rattle.toll_wire.proofs.Valid.{IsValidSaying, lawful_after_saying, says_valid}
 use Rattle.toll_wire.specs.Groups.{AreApart, AreHeld, AreHolding, AreSaid, IfAllUnchanging, IsGroupRefused, MayBeReplies, after_sayings, comes_again, group_steps, has_key}
 use Rattle.toll_wire.specs.Held.{IsHeld, PutsFor}
 use Rattle.toll_wire.specs.Steps.{ReplyCalls, may_write}
 use Rattle.toll_wire.specs.declared.outgoing.Out.{Out}
 
 -- ---- histories
-
-pub lawful_after_saying : (H : History) (s : Saying) → IsValidSaying s → IsLawful H → IsLawful (after_saying H s)
-lawful_after_saying H (By o (Some key) (Asks q)) valid lawful = lawful_after_reply o key H q lawful valid
-lawful_after_saying H (By o (Some key) (Fails text)) valid lawful = lawful
-lawful_after_saying H (By o None asking) valid lawful = lawful
-lawful_after_saying H (Nobody text) valid lawful = lawful
 
 lawful_after_sayings : (requests : List Bytes) (sayings : List Saying) → AreSaid requests sayings → (H : History) → IsLawful H → IsLawful (after_sayings H sayings)
 lawful_after_sayings [] [] said H lawful = lawful
@@ -196,15 +189,6 @@ all_so c (s ∷ sayings) [] P p = p
 all_so c (s ∷ sayings) (out ∷ outs) P p = so_unchanging c s out (IfAllUnchanging c sayings outs P) (all_so c sayings outs P p)
 
 -- what follows is so if they are
-pub if_saying_follows : (c : Content) (s : Saying) (out : Out) (P Q : Type 0) → (P → Q) → IfSayingUnchanging c s out P → IfSayingUnchanging c s out Q
-if_saying_follows c s out P Q follows is = record { asks = λ e. follows (is.asks e); quiet = λ e. follows (is.quiet e); once = again s is.once }
-  where
-    again : (s : Saying) → IfPlacedBefore c s P → IfPlacedBefore c s Q
-    again (By o (Some key) (Asks q)) once = λ placing e there. follows (once placing e there)
-    again (By o (Some key) (Fails text)) once = tt
-    again (By o None asking) once = tt
-    again (Nobody text) once = tt
-
 all_follow : (c : Content) (sayings : List Saying) (outs : List Out) (P Q : Type 0) → (P → Q) → IfAllUnchanging c sayings outs P → IfAllUnchanging c sayings outs Q
 all_follow c [] outs P Q follows is = follows is
 all_follow c (s ∷ sayings) [] P Q follows is = follows is

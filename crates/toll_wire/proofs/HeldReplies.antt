@@ -1,24 +1,25 @@
 -- Replies whose changes are held back, and these changes once they are made.
-use Rattle.std.proofs.Common.{◌≡◌, ℕ, Bool, true, false, cond, is_ok, List, [], MatchBool, Some, None, Result, Ok, Err, IfErr, IfOk, refl, sym, subst, subst₂, inl, inr}
-use Rattle.toll_wire.proofs.Common.{Vec, false≢true, Bytes, History, Meaning, Content, IsReading, KeepFault, Memory, Request, OwnerReply, ReplyForbidden, has_owner_key, IsReply, IsValidOwnerRequest, may_change, writes, finished, IfOk-weaker, IsKeepStep, calls_of, Text, Unavailable, fault_or_memory, text_of_failure, Forbidden, text_if_reply, ClaimedRequest, Asks, Fails, Saying, By, Nobody, IsTold, MayBeReply, after_saying, IfSayingUnchanging, saying_steps}
+use Rattle.std.proofs.Common.{◌≡◌, ℕ, Bool, true, false, cond, is_ok, List, [], MatchBool, Some, None, Result, Ok, Err, IfErr, IfOk, refl, sym, subst, subst₂, inl, inr, ◌∙◌}
+use Rattle.toll_wire.proofs.Common.{Vec, false≢true, Bytes, History, Meaning, Content, IsReading, KeepFault, Memory, Request, OwnerReply, ReplyForbidden, has_owner_key, IsReply, may_change, writes, finished, IfOk-weaker, IsKeepStep, calls_of, Text, Unavailable, fault_or_memory, text_of_failure, Forbidden, text_if_reply, ClaimedRequest, Asks, Fails, Saying, By, Nobody, IsTold, MayBeReply, after_saying, IfSayingUnchanging, IsAnswered, SayingCalls, saying_steps}
 use Rattle.toll_base.specs.declared.decision.Change.{Change}
 use Rattle.toll_history.specs.OwnChanges.{PutsOnly}
 use Rattle.toll_keep.proofs.Calls.{Rests, answered, kept_as, kept_fault, read_fault, read_memory, read_ok}
-use Rattle.toll_keep.specs.HeldFor.{KeepsHeld}
+use Rattle.toll_keep.specs.HeldFor.{KeepsHeld, KeepsOneMore, PutsOutside}
 use Rattle.toll_desk.specs.Clauses.{IfUnchanging, OverContentRows}
 use Rattle.toll_desk.specs.Outcome.{CommitEffect}
 use Rattle.toll_desk.specs.Plans.{ChangesLeadTo, IsPlan}
 use Rattle.toll_desk.specs.Reads.{Over}
 use Rattle.toll_desk.specs.Steps.{StepKind, answered_steps}
 use Rattle.toll_desk.proofs.CommitLemmas.{and_false, commit_step}
-use Rattle.toll_desk.proofs.OwnerPlans.{lawful_after_reply}
 use Rattle.toll_desk.proofs.SliceToContent.{leads_nowhere}
 use Rattle.toll_desk.proofs.StepLemmas.{step_as}
 use Rattle.toll_wire.specs.declared.outgoing.Out.{Out}
-use Rattle.toll_wire.specs.Held.{HoldCalls, IsHolding, IsReadAtMost, PutsFor, changes_held, text_held}
+use Rattle.toll_wire.specs.Held.{HoldCalls, IsHeldBack, IsHeldBackKeeping, IsHolding, IsReadAtMost, PutsFor, changes_held, text_held}
 use Rattle.toll_wire.specs.declared.holding.HeldReply.{HeldReply}
 use Rattle.toll_wire.specs.OutTexts.{IsText, out_of, text_if}
-use Rattle.toll_wire.proofs.Served.{grants_none, so_unchanging}
+use Rattle.toll_wire.proofs.Served.{grants_none, if_saying_follows, so_unchanging, uncalled, untold}
+use Rattle.toll_wire.proofs.Valid.{IsValidSaying, lawful_after_saying, says_valid}
+use Rattle.toll_wire.specs.Steps.{IsAnsweredKeeping, ReplyCalls}
 
 -- the one text that there may be is the text of the reply
 pub text_there : (out : Out) (text : Bytes) (r : Result (Vec ℕ) KeepFault) → out_of r ≡ out → IsText out (Some text) → IfOk r (λ found. found.items ≡ text)
@@ -145,58 +146,118 @@ module _ {K : Type 0} (meaning : Meaning K) (old new : K) where
 
 -- ---- the changes, once they are made
 
-module _ {K : Type 0} (meaning : Meaning K) (old middle new : K) (o key : Bytes) (q : Request) (text : Vec ℕ) (changes made : List Change) (same : made ≡ changes)
-    (holding : IsHolding meaning old middle (By o (Some key) (Asks q)) (Ok text) changes) (result : Result (Unit {0}) KeepFault)
-    (commit : CommitEffect meaning middle new made result) where
-  abbrev held_saying : Saying
-  held_saying = By o (Some key) (Asks q)
+module _ {K : Type 0} (meaning : Meaning K) (rests : Rests meaning) (old middle new : K) (text : Vec ℕ) (changes made : List Change) (same : made ≡ changes)
+    (result : Result (Unit {0}) KeepFault) (commit : CommitEffect meaning middle new made result) where
+  abbrev Serves : Saying → Type 0
+  Serves saying = IsKeepStep meaning saying_steps old saying (text_if text result) new
 
-  -- the reading, and the step that it is with the changes after it
-  held_read : IsReading meaning old middle (answered text)
-  held_read = holding.calls
+  -- ---- with a key
 
-  abbrev told_steps : StepKind Saying (Result (Vec ℕ) KeepFault)
-  told_steps =
-      answered_steps (λ H s (found : Vec ℕ). IsTold H s found.items) after_saying (λ s r calls. calls ≡ calls_of r) (λ c s r P. IfSayingUnchanging c s (out_of r) P)
+  module _ (o key : Bytes) (asking : ClaimedRequest) (valid : IsValidSaying (By o (Some key) asking))
+      (holding : IsHolding meaning old middle (By o (Some key) asking) (Ok text) changes) where
+    abbrev held_saying : Saying
+    held_saying = By o (Some key) asking
 
-  still_told : (c : Content) (P : Type 0) → IfSayingUnchanging c held_saying (Text text) (changes ≡ []) → (r : Result (Unit {0}) KeepFault)
-      → (is_ok (finished (answered text) r) ≡ false → P) → (changes ≡ [] → P) → IfSayingUnchanging c held_saying (out_of (finished (answered text) r)) P
-  still_told c P still (Ok done) stays none = record {
-    asks = λ is. none (still.asks is);
-    quiet = λ is. none (still.quiet is);
-    once = λ placing is there. none (still.once placing is there);
-  }
-  still_told c P still (Err fault) stays none = so_unchanging c held_saying Unavailable P (stays refl)
+    -- the reading, and the step that it is with the changes after it
+    held_read : IsReading meaning old middle (answered text)
+    held_read = holding.calls
 
-  made_told : Rests meaning → IsValidOwnerRequest q → IsKeepStep meaning told_steps old held_saying (finished (answered text) result) new
-  made_told rests valid =
-      commit_step meaning rests old middle new (answered text) (finished (answered text) result) changes made result same refl held_read commit
-      is_ok (λ fault. refl) (λ is. absurd (false≢true (sym is)))
-      (λ H s (found : Vec ℕ). IsTold H s found.items) after_saying held_saying (λ H lawful. lawful_after_reply o key H q lawful valid)
-      (λ now c H held stands lawful. let is = holding.over now c H held stands lawful in (is.told, is.leads)) _ refl _
-      (λ now c held P stays none. still_told c P (holding.still now c held) result stays none)
+    abbrev told_steps : StepKind Saying (Result (Vec ℕ) KeepFault)
+    told_steps =
+        answered_steps (λ H s (found : Vec ℕ). IsTold H s found.items) after_saying (λ s r calls. calls ≡ calls_of r) (λ c s r P. IfSayingUnchanging c s (out_of r) P)
 
-  told_as_step : (r : Result (Unit {0}) KeepFault) → IsKeepStep meaning told_steps old held_saying (finished (answered text) r) new
-      → IsKeepStep meaning saying_steps old held_saying (text_if text r) new
-  told_as_step (Ok done) step = record {
-    outcome = step.outcome;
-    calls = (holding.tells, step.calls);
-    store = step.store;
-    still = step.still;
-    over = λ now c H held stands lawful.
-        step_as meaning told_steps.step told_steps.may_make saying_steps.step saying_steps.may_make old new c H held_saying (Ok text)
-        held_saying (Text text) (λ G step. step.1) (λ G makes. makes) (step.over now c H held stands lawful);
-  }
-  told_as_step (Err fault) step = record {
-    outcome = step.outcome;
-    calls = (tt, (fault, step.calls));
-    store = step.store;
-    still = step.still;
-    over = λ now c H held stands lawful.
-        step_as meaning told_steps.step told_steps.may_make saying_steps.step saying_steps.may_make old new c H held_saying (Err fault)
-        held_saying Unavailable (λ G step. step.1) (λ G makes. makes) (step.over now c H held stands lawful);
-  }
+    still_told : (c : Content) (P : Type 0) → IfSayingUnchanging c held_saying (Text text) (changes ≡ []) → (r : Result (Unit {0}) KeepFault)
+        → (is_ok (finished (answered text) r) ≡ false → P) → (changes ≡ [] → P) → IfSayingUnchanging c held_saying (out_of (finished (answered text) r)) P
+    still_told c P still (Ok done) stays none = if_saying_follows c held_saying (Text text) (changes ≡ []) P none still
+    still_told c P still (Err fault) stays none = so_unchanging c held_saying Unavailable P (stays refl)
+
+    made_told : IsKeepStep meaning told_steps old held_saying (finished (answered text) result) new
+    made_told =
+        commit_step meaning rests old middle new (answered text) (finished (answered text) result) changes made result same refl held_read commit
+        is_ok (λ fault. refl) (λ is. absurd (false≢true (sym is)))
+        (λ H s (found : Vec ℕ). IsTold H s found.items) after_saying held_saying (λ H lawful. lawful_after_saying H held_saying valid lawful)
+        (λ now c H held stands lawful. let is = holding.over now c H held stands lawful in (is.told, is.leads)) _ refl _
+        (λ now c held P stays none. still_told c P (holding.still now c held) result stays none)
+
+    told_as_step : (r : Result (Unit {0}) KeepFault) → IsKeepStep meaning told_steps old held_saying (finished (answered text) r) new
+        → IsKeepStep meaning saying_steps old held_saying (text_if text r) new
+    told_as_step (Ok done) step = record {
+      outcome = step.outcome;
+      calls = (holding.tells, step.calls);
+      store = step.store;
+      still = step.still;
+      over = λ now c H held stands lawful.
+          step_as meaning told_steps.step told_steps.may_make saying_steps.step saying_steps.may_make old new c H held_saying (Ok text)
+          held_saying (Text text) (λ G step. step.1) (λ G makes. makes) (step.over now c H held stands lawful);
+    }
+    told_as_step (Err fault) step = record {
+      outcome = step.outcome;
+      calls = (tt, (fault, step.calls));
+      store = step.store;
+      still = step.still;
+      over = λ now c H held stands lawful.
+          step_as meaning told_steps.step told_steps.may_make saying_steps.step saying_steps.may_make old new c H held_saying (Err fault)
+          held_saying Unavailable (λ G step. step.1) (λ G makes. makes) (step.over now c H held stands lawful);
+    }
+
+    keyed_step : Serves held_saying
+    keyed_step = told_as_step result made_told
+
+  -- ---- without a key
+
+  -- the keep isn't called, and there are no changes
+  keyless_step : (s : Saying) → middle ≡ old → changes ≡ [] → SayingCalls s (Text text) None → MayBeReply s text.items
+      → ((H : History) → IsTold H s text.items × (H ≡ after_saying H s)) → Serves s
+  keyless_step s still none called may replies =
+      let unmade = commit.idle (same ∙ none) in
+      subst₂ (λ r k. IsKeepStep meaning saying_steps old s (text_if text r) k) (sym unmade.1) (sym (unmade.0 ∙ still))
+      (uncalled meaning rests old s text.items (Text text) refl called may replies)
 
   -- the reply that was held back is the reply of the step, once its changes are made
-  pub held_step : Rests meaning → IsValidOwnerRequest q → IsKeepStep meaning saying_steps old held_saying (text_if text result) new
-  held_step rests valid = told_as_step result (made_told rests valid)
+  pub held_step : (s : Saying) → IsValidSaying s → IsHolding meaning old middle s (Ok text) changes → Serves s
+  held_step (By o (Some key) asking) valid holding = keyed_step o key asking valid holding
+  held_step (By o None asking) valid holding =
+      keyless_step (By o None asking) holding.calls.0 (holding.asks refl) refl holding.tells (λ H. (holding.tells, refl))
+  held_step (Nobody reported) valid holding =
+      keyless_step (Nobody reported) holding.calls.0 (holding.asks refl) refl holding.tells (λ H. (holding.tells, refl))
+
+-- ---- the answer
+
+module _ {K : Type 0} (meaning : Meaning K) (old new : K) (fault : KeepFault) where
+  -- what isn't held back has no reply
+  untold_step : Rests meaning → (s : Saying) (changes : List Change) → IsHolding meaning old new s (Err fault) changes
+      → IsKeepStep meaning saying_steps old s Unavailable new
+  untold_step rests (By o (Some key) asking) changes holding = untold meaning rests old new o key asking (Err fault) holding.calls
+  untold_step rests (By o None asking) changes holding =
+      subst (IsKeepStep meaning saying_steps old (By o None asking) Unavailable) (sym holding.calls.0)
+      (uncalled meaning rests old (By o None asking) (text_of_failure Forbidden) Unavailable tt refl refl (λ H. (refl, refl)))
+  untold_step rests (Nobody reported) changes holding =
+      subst (IsKeepStep meaning saying_steps old (Nobody reported) Unavailable) (sym holding.calls.0)
+      (uncalled meaning rests old (Nobody reported) reported Unavailable tt refl refl (λ H. (refl, refl)))
+
+  pub unanswered : Rests meaning → (bytes : Bytes) → IsHeldBack meaning old new bytes (Err fault) → IsAnswered meaning old new bytes Unavailable
+  unanswered rests bytes (inl (s, says, holding)) = inl (s, says, untold_step rests s [] holding)
+  unanswered rests bytes (inr (lacks, still)) = inr (refl, still)
+
+  pub unanswered_keeps : (os : List Bytes) → IsHeldBackKeeping meaning old new os (Err fault) → IsAnsweredKeeping meaning old new Unavailable
+  unanswered_keeps os (inl (kept, puts)) = inl (Err fault, (fault, refl), kept_fault meaning old new fault kept)
+  unanswered_keeps os (inr (lacks, still)) = inr (refl, still)
+
+module _ {K : Type 0} (meaning : Meaning K) (old middle new : K) (held : HeldReply) (made : List Change) (same : made ≡ held.changes.items)
+    (result : Result (Unit {0}) KeepFault) where
+  pub answered_held : Rests meaning → (bytes : Bytes) → IsHeldBack meaning old middle bytes (Ok held) → CommitEffect meaning middle new made result
+      → IsAnswered meaning old new bytes (text_if held.text result)
+  answered_held rests bytes (inl (s, says, holding)) commit =
+      inl (s, says, held_step meaning rests old middle new held.text held.changes.items made same result commit s (says_valid bytes s says) holding)
+  answered_held rests bytes (inr (lacks, still)) commit = absurd (cc lacks)
+
+  -- the calls of the keep succeeded if the changes were made
+  replied : (r : Result (Unit {0}) KeepFault) → ReplyCalls (text_if held.text r) (Some r)
+  replied (Ok done) = refl
+  replied (Err fault) = (fault, refl)
+
+  pub answered_keeps : (os : List Bytes) → IsHeldBackKeeping meaning old middle os (Ok held) → (PutsOutside os made → KeepsOneMore meaning middle new result)
+      → IsAnsweredKeeping meaning old new (text_if held.text result)
+  answered_keeps os (inl (kept, puts)) more =
+      inl (result, replied result, more (subst (PutsOutside os) (sym same) puts) old (kept_as meaning old middle held tt kept))
+  answered_keeps os (inr (lacks, still)) more = absurd (cc lacks)

@@ -1,16 +1,14 @@
 -- Requests that are served, over any keep.
-use Rattle.std.proofs.Common.{OnErr, IsTrue, nat_eq, codes, ◌≡◌, ℕ, Bool, true, false, ◌&&◌, cond, [], Some, None, Result, Ok, Err, IfErr, refl, sym, subst, inl, inr}
-use Rattle.toll_wire.proofs.Common.{Vec, starts_with, digits, false≢true, Bytes, History, IsLawful, Meaning, Content, IsReading, Represents, KeepFault, Memory, Request, OwnerReply, ReplyForbidden, ReplyRefused, has_owner_key, is_granted, may_change, writes, reply_text, Forbidden, Calls, IsKeepStep, IsStepFrom, StoreEffect, calls_of, Text, Unavailable, fault_or_memory, text_of_failure, text_of_reply_meaning, text_if_reply, ClaimedRequest, Asks, Fails, Saying, By, Nobody, IsTold, MayBeReply, after_saying, IfPlacedBefore, IfSayingUnchanging, IsReplyWhere, IsGranted, IsSayingStep, IsFaultMet, SayingCalls, saying_steps}
-use Rattle.toll_keep.proofs.Calls.{Rests, answered, failed_call, goes_fault, goes_memory, kept_as, kept_fault, kept_memory, read_memory, settles_still}
+use Rattle.std.proofs.Common.{OnErr, IsTrue, nat_eq, codes, ◌≡◌, ℕ, Bool, true, false, ◌&&◌, [], Some, None, Result, Ok, Err, refl, sym, subst, inl}
+use Rattle.toll_wire.proofs.Common.{Vec, starts_with, digits, false≢true, Bytes, History, IsLawful, Meaning, Content, IsReading, Represents, KeepFault, Memory, Request, OwnerReply, ReplyForbidden, ReplyRefused, is_granted, may_change, writes, reply_text, Calls, IsKeepStep, IsStepFrom, StoreEffect, calls_of, Text, Unavailable, fault_or_memory, text_of_reply_meaning, text_if_reply, ClaimedRequest, Asks, Fails, Saying, By, Nobody, IsTold, MayBeReply, after_saying, IfPlacedBefore, IfSayingUnchanging, IsReplyWhere, IsGranted, IsSayingStep, SayingCalls, saying_steps}
+use Rattle.toll_keep.proofs.Calls.{Rests, answered, failed_call, kept_as, kept_fault, kept_memory, read_memory, settles_still}
 use Rattle.toll_keep.specs.CallEffects.{Keeps}
 use Rattle.toll_keep.specs.HeldFor.{KeepsHeld}
 use Rattle.toll_desk.specs.Reads.{Over}
 use Rattle.toll_desk.proofs.CommitLemmas.{and_false}
 use Rattle.toll_desk.proofs.StepLemmas.{store_of}
-use Rattle.toll_protocol.specs.declared.http_messages.failure.Failure.{Failure}
 use Rattle.toll_wire.specs.declared.outgoing.Out.{Out}
-use Rattle.toll_wire.specs.OutTexts.{IsText, out_of}
-use Rattle.toll_wire.specs.Steps.{IsAnsweredKeeping}
+use Rattle.toll_wire.specs.OutTexts.{IsText}
 
 -- ---- texts
 
@@ -45,10 +43,15 @@ so_unchanging c saying out P p = record { asks = λ none. p; quiet = λ not. p; 
     so_again (By o None asking) = tt
     so_again (Nobody text) = tt
 
--- what is so of a lack of memory is so of the only fault that there can be
-pub met_memory : {X : Type 0} (P : KeepFault → Type 0) (r : Result X KeepFault) → IfErr r (λ fault. fault ≡ Memory) → P Memory → IfErr r P
-met_memory P (Ok x) is p = tt
-met_memory P (Err fault) is p = subst P (sym is) p
+-- what follows from that is so too
+pub if_saying_follows : (c : Content) (s : Saying) (out : Out) (P Q : Type 0) → (P → Q) → IfSayingUnchanging c s out P → IfSayingUnchanging c s out Q
+if_saying_follows c s out P Q follows is = record { asks = λ e. follows (is.asks e); quiet = λ e. follows (is.quiet e); once = again s is.once }
+  where
+    again : (s : Saying) → IfPlacedBefore c s P → IfPlacedBefore c s Q
+    again (By o (Some key) (Asks q)) once = λ placing e there. follows (once placing e there)
+    again (By o (Some key) (Fails text)) once = tt
+    again (By o None asking) once = tt
+    again (Nobody text) once = tt
 
 module _ {K : Type 0} (meaning : Meaning K) where
   abbrev Serves : K → K → Saying → Out → Type 0
@@ -124,11 +127,6 @@ module _ {K : Type 0} (meaning : Meaning K) where
         on_err (Ok x) p = tt
         on_err (Err fault) p = p
 
-    -- the fault is that of the reading, or there was no memory after it
-    pub met_reading : {X : Type 0} (r : Result X KeepFault) → IsReading meaning old new r → IsFaultMet meaning old new (fault_or_memory r)
-    met_reading (Ok x) reads = inr (goes_memory meaning old new x reads.goes, λ now c held keeps is. (cc is))
-    met_reading (Err fault) reads = inr (goes_fault meaning old new fault reads.goes, λ now c held keeps is. reads.whole now c held keeps (cc is))
-
     -- no reply, after calls that answered or after a fault of one
     pub untold : {X : Type 0} (o key : Bytes) (asking : ClaimedRequest) (r : Result X KeepFault) → IsReading meaning old new r
         → Serves old new (By o (Some key) asking) Unavailable
@@ -143,15 +141,6 @@ module _ {K : Type 0} (meaning : Meaning K) where
         by_reading (Ok x) reads = by_fault Memory (read_memory meaning old new x reads.goes reads.keeps)
         by_reading (Err fault) reads = by_fault fault reads
 
-    -- the reply names the check that failed if the key is right, and else only says that it is forbidden
-    pub served_refused : {X : Type 0} (o key : Bytes) (failure : Failure) (x : X) → IsReading meaning old new (answered x) → (b : Bool)
-        → Over meaning old new (λ c H. b ≡ has_owner_key o key H) → (out : Out) → IsText out (Some (cond b (text_of_failure failure) (text_of_failure Forbidden)))
-        → Serves old new (By o (Some key) (Fails (text_of_failure failure))) out
-    served_refused o key failure x reads b admits Unavailable is = untold o key (Fails (text_of_failure failure)) (answered x) reads
-    served_refused o key failure x reads b admits (Text text) is =
-        still_step old new (By o (Some key) (Fails (text_of_failure failure))) (Text text) (Some (Ok tt)) refl (read_store (answered x) reads) reads.keeps
-        (b, tt, is) (λ now c H held stands lawful. ((b, admits now c H held stands lawful, is), refl))
-
   -- ---- what is held for others
 
   module _ (old new : K) where
@@ -164,12 +153,7 @@ module _ {K : Type 0} (meaning : Meaning K) where
         by_result (Ok x) kept = kept_memory meaning old new x kept
         by_result (Err fault) kept = kept_fault meaning old new fault kept
 
-    -- so the answer keeps it too
-    pub kept_answer : (r : Result (Vec ℕ) KeepFault) → KeepsHeld meaning old new r → IsAnsweredKeeping meaning old new (out_of r)
-    kept_answer (Ok text) kept = inl (Ok tt, refl, kept_as meaning old new text tt kept)
-    kept_answer (Err fault) kept = inl (Err fault, (fault, refl), kept_fault meaning old new fault kept)
-
-    -- so does one with a text, whatever is held back with it
+    -- after those with a text, whatever is held back with it
     pub kept_told : {Y : Type 0} (planned : Result OwnerReply KeepFault) (text : Vec ℕ) → IsText (Text text) (text_if_reply planned) → KeepsHeld meaning old new planned
         → (y : Y) → KeepsHeld meaning old new (answered y)
     kept_told (Ok reported) text is kept y = kept_as meaning old new reported y kept

@@ -1,8 +1,9 @@
 -- What the bytes of requests say is within its bounds.
 use Rattle.std.proofs.Common.{Option, Some, None, Result, Ok, Err, sym, subst}
 use Rattle.toll_base.specs.declared.request.Request.TheVariants.{Place}
+use Rattle.toll_desk.proofs.OwnerPlans.{lawful_after_reply}
 use Rattle.toll_wire.proofs.AddressLemmas.{each_has_address}
-use Rattle.toll_wire.proofs.Common.{Bytes, Failure, IsValidOwnerRequest, ParseResult, Request, Verb, refused, request, IsAskable, IsAsking, Saying, By, Asks, saying_of, IsSaidBy, Says}
+use Rattle.toll_wire.proofs.Common.{Bytes, Failure, History, IsLawful, IsValidOwnerRequest, ParseResult, Request, Verb, refused, request, IsAskable, IsAsking, Saying, By, Nobody, Asks, Fails, after_saying, saying_of, IsSaidBy, Says}
 
 abbrev pub IsValidSaying : Saying → Type 0
 IsValidSaying (By o key (Asks q)) = IsValidOwnerRequest q
@@ -23,3 +24,10 @@ said_valid (request verb target owner key body) saying is = subst IsValidSaying 
 
 pub says_valid : (bytes : Bytes) (saying : Saying) → Says bytes saying → IsValidSaying saying
 says_valid bytes saying says = said_valid says.0 saying says.2
+
+-- so what is said of a lawful history leads to one
+pub lawful_after_saying : (H : History) (s : Saying) → IsValidSaying s → IsLawful H → IsLawful (after_saying H s)
+lawful_after_saying H (By o (Some key) (Asks q)) valid lawful = lawful_after_reply o key H q lawful valid
+lawful_after_saying H (By o (Some key) (Fails text)) valid lawful = lawful
+lawful_after_saying H (By o None asking) valid lawful = lawful
+lawful_after_saying H (Nobody text) valid lawful = lawful

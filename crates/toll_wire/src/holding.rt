@@ -8,16 +8,15 @@ ghost use Rattle.toll_desk.specs.Translations.{meaning_of_reply};
 ghost use Rattle.toll_protocol.specs.Parsed.{parse_outcome};
 ghost use Rattle.toll_protocol.specs.Parsing.{IsParsedAs};
 ghost use Rattle.toll_wire.specs.Held.{IsHeldBack, IsHeldBackKeeping, IsHolding, IsReadAtMost, changes_held, text_held};
-ghost use Rattle.toll_wire.specs.ReplyTexts.{fault_or_memory};
-ghost use Rattle.toll_wire.specs.Sayings.{AreOfOneOf, Asks, By};
+ghost use Rattle.toll_wire.specs.ReplyTexts.{fault_or_memory, text_of_failure};
+ghost use Rattle.toll_wire.specs.Sayings.{AreOfOneOf, Asks, By, Fails};
 
-use crate::answering::refuse;
 use crate::outgoing::Out;
 use crate::reply::{fail, reply_out};
 use crate::routes::{OfficeRouter, route_request};
 use std::alloc::Global;
 use toll_base::{Change, Request};
-use toll_desk::{Reply, owner_plan};
+use toll_desk::{Reply, admit, owner_plan};
 use toll_keep::{Keep, KeepFault};
 use toll_protocol::{Failure, HttpRequest};
 
@@ -58,6 +57,26 @@ pub fn hold_with_router<K: Keep>(
     }
 }
 
+// Replies to an owner which check the request fails, and to every other client only that it is forbidden.
+fn refuse<K: Keep>(
+    alloc: Global,
+    keep: &mut K,
+    owner: &[u8],
+    key: &[u8],
+    failure: Failure,
+) -> Result<Vec<u8>, KeepFault>
+    ensures holds { IsHolding K.meaning keep.old keep.new (By owner.now (Some key.now) (Fails (text_of_failure failure))) result [] }
+    ensures alone { (os : List Bytes) → IsHolding (meaning_for K.meaning K.part os) keep.old keep.new
+        (By owner.now (Some key.now) (Fails (text_of_failure failure))) result [] }
+    ensures others { (os : List Bytes) → KeepsHeld (meaning_for K.meaning K.part os) keep.old keep.new result }
+{
+    match admit(alloc, keep, owner, key) {
+        Ok(Some(_)) => fail(alloc, failure).into_text(),
+        Ok(None) => fail(alloc, Failure::Forbidden).into_text(),
+        Err(fault) => Err(fault),
+    }
+}
+
 // A reply without changes.
 fn unchanging(alloc: Global, text: Result<Vec<u8>, KeepFault>) -> Result<HeldReply, KeepFault>
     ensures text { text_held result ≡ text }
@@ -73,7 +92,7 @@ fn unchanging(alloc: Global, text: Result<Vec<u8>, KeepFault>) -> Result<HeldRep
 }
 
 // Makes the text of the reply, and holds its changes back.
-pub(crate) fn hold<K: Keep>(
+fn hold<K: Keep>(
     alloc: Global,
     keep: &mut K,
     owner: &[u8],

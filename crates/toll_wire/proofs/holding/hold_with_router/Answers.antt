@@ -76,7 +76,7 @@ returns-in-Err-asks-clause-alone g c = λ os bytes is its.
     let read : IsParsedAs bytes (parse_outcome (Ok c.in-Ok.http)) = rw c.in-Ok.is at is in
     let says : Says bytes (By c.in-Some-Some.owner.now (Some c.in-Some-Some.key.now) (Fails (text_of_failure c.in-Err-asks.failure))) = (_, rw (c.in-Some-Some.is-0, c.in-Some-Some.is-1) at read, (Err c.in-Err-asks.failure, rw c.in-Err-asks.is at c.in-Ok-route_request.ensures, refl)) in
     let back = c.unchanging-in-Err-asks in
-    inl (_, says, held_alone (meaning_for g.K.Keep.meaning g.K.Keep.part os) c.args.keep.now c.refuse.new.keep _ c.refuse.result back.result back.ensures.text back.ensures.none (c.refuse.ensures.held os))
+    inl (_, says, held_alone (meaning_for g.K.Keep.meaning g.K.Keep.part os) c.args.keep.now c.refuse.new.keep _ c.refuse.result back.result back.ensures.text back.ensures.none (c.refuse.ensures.alone os))
 
 pub returns-in-Err-clause-others : goal.returns-in-Err-clause-others
 returns-in-Err-clause-others g c = λ os bytes is other.
