@@ -384,8 +384,8 @@ def test_a_kill_at_any_write_is_no_loss(disks: list[Disk], work: str, step: int)
 def calls_of_idle(office: Disk) -> int:
     """How many calls a server made, as soon as it makes no more."""
     count = -1
-    while count < (made := len(office.calls())):
-        count = made
+    while count < (latest := len(office.calls())):
+        count = latest
         time.sleep(0.1)
     return count
 
@@ -407,14 +407,14 @@ def test_a_commit_whose_sync_failed_is_not_marked(disks: list[Disk], work: str) 
         return calls, 0 if is_answered else frames
 
     calls, _ = take_two(0)
-    sync, were_unsynced = office.calls().index("s", calls) + 1 - calls, 0
-    for failing in range(sync - 2, sync + 3):  # as many looks come before it as the server waits
-        _, frames = take_two(failing)
-        if frames and frames_in(log.read_bytes()) > frames:
-            os.truncate(log, 32 + frames * FRAME_BYTES)  # as a power cut may
-            assert outcome(office, 1, by_server=True) == "whole"
-            were_unsynced += 1
-    assert were_unsynced
+    first = office.calls().index("s", calls) + 1 - calls
+    for failing in range(max(first - 3, 1), first + 40):  # as many looks come before it as the server waits
+        calls, frames = take_two(failing)
+        if office.calls()[calls + failing - 1 :][:1] == "s" and frames:
+            break
+    assert frames_in(log.read_bytes()) > frames > 0
+    os.truncate(log, 32 + frames * FRAME_BYTES)  # as a power cut may
+    assert outcome(office, 1, by_server=True) == "whole"
 
 
 @pytest.mark.parametrize("most", [12, pytest.param(1000, marks=pytest.mark.long)])
@@ -432,7 +432,9 @@ def test_a_marked_log_that_cannot_be_opened_or_read_is_no_loss(disks: list[Disk]
     points = [at for at, kind in enumerate(office.calls(), 1) if kind in "or"][:most]
     assert wanted.status == 0 and points
     answers = {at: answer_while_failing(at) for at in points}
-    assert {at: said for at, said in answers.items() if said not in (wanted, fault("Disk"), fault("Locked"))} == {}
+    assert {
+        at: answer for at, answer in answers.items() if answer not in (wanted, fault("Disk"), fault("Locked"))
+    } == {}
 
 
 @pytest.mark.parametrize("step", [7, pytest.param(1, marks=pytest.mark.long)])

@@ -100,9 +100,9 @@ class Reading:
     def lots_noted(self, word: str) -> list[Lot]:
         """The lots of movements of which a supplier's lot or a document is noted that says a text."""
         pattern, names = whole_words(word), self.base.execute(NOTED, {"part": part_of(word)}).fetchall()
-        facts = (self.register.facts[name] for name in names if name in self.register.facts)
-        said = [each for each in facts if pattern.search(each.supplier_lot) or pattern.search(each.document)]
-        moves = [move for each in said for move in read_moves(self.base, OF_KEY, (each.owner, each.key))]
+        all_facts = [self.register.facts[name] for name in names if name in self.register.facts]
+        fitting = [facts for facts in all_facts if pattern.search(facts.supplier_lot) or pattern.search(facts.document)]
+        moves = [move for facts in fitting for move in read_moves(self.base, OF_KEY, (facts.owner, facts.key))]
         return list(lots_of(self.base, {move.lot for move in moves}).values())
 
     def moves_of(self, lot: LotId) -> list[Move]:

@@ -44,14 +44,11 @@ def all_cases() -> Answer:
 @PAGE.post("/case")
 def opened() -> Answer | Response:
     """Opens a case from a lot, or from all that came with a supplier's lot or a document."""
-    said = [typed("said")] if typed("said") else []
-    names: dict[str, Any] = {
-        "names": [] if said else [name_typed("owner"), name_typed("lot")],
-        "lots": [],
-        "parties": [],
-    }
-    others = {"supplier_lots": said, "documents": said, **dict.fromkeys(("unit", "since", "until"))}
-    outcome = step("open", {**names, **others, "is_drill": typed("drill") == "yes", "reason": typed("reason")})
+    texts = [typed("came_with")] if typed("came_with") else []
+    names = [] if texts else [name_typed("owner"), name_typed("lot")]
+    origin: dict[str, Any] = {"names": names, "lots": [], "supplier_lots": texts, "documents": texts, "parties": []}
+    origin |= dict.fromkeys(("unit", "since", "until"))
+    outcome = step("open", {**origin, "is_drill": typed("drill") == "yes", "reason": typed("reason")})
     if not outcome.is_done:
         return page("failed.html", outcome, why=outcome.lines[0], advice=outcome.lines[1:])
     number = outcome.lines[0].split()[1]  # as it is printed: case C-1 began on ..
