@@ -2,6 +2,7 @@
 //! streams of std that fail.
 
 mod answers;
+mod groups;
 mod lines;
 mod orders;
 mod requests;
