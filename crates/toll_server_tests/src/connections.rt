@@ -442,6 +442,30 @@ fn the_longest_reader_goes_where_there_are_no_resources(rt: HostRuntime) {
     assert_eq!(rt; outcome, all_with(1, 3, 0));
 }
 
+// There are no resources for the second client while the first has a task, or takes nothing of its reply. It is
+// accepted as soon as the first is answered, or the time of the first is over, and not once a pause is.
+#[test]
+fn none_is_accepted_without_resources_until_one_has_left(rt: HostRuntime) {
+    let log = Log::at(Pace {
+        turns: 3,
+        milliseconds: 0,
+    });
+    log.refused.set(1);
+    let outcome = outcome_of_crowd(rt.alloc(), 1, &[SEVENTH, WHOLE], &[1, 1], &log);
+    assert_eq!(rt; outcome, all_with(2, 6, 0));
+    let log = Log::at(Pace {
+        turns: 2,
+        milliseconds: 500,
+    });
+    log.refused.set(11);
+    let full = Plan {
+        takes: Takes::Nothing,
+        ..SEVENTH
+    };
+    let outcome = outcome_of_crowd(rt.alloc(), 1, &[full, WHOLE], &[1, 1], &log);
+    assert_eq!(rt; outcome, all_with(2, 3, 10_500));
+}
+
 // The request of one of three parties.
 fn asked_by(party: usize) -> Plan {
     match party {

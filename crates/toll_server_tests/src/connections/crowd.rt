@@ -37,6 +37,17 @@ impl<'l> Crowd<'l> {
         crowd
     }
 
+    // Whether none can be accepted now, after the first client.
+    fn is_refused(&self) -> bool {
+        match self.log.refused.get().checked_sub(1) {
+            Some(rest) if self.came > 0 => {
+                self.log.refused.set(rest);
+                true
+            }
+            _ => false,
+        }
+    }
+
     fn let_next_come(&mut self) {
         if let Some((next, rest)) = self.groups.split_first() {
             self.at_door = self.at_door.saturating_add(*next);
@@ -83,6 +94,9 @@ impl<'l> Network for Crowd<'l> {
         }
         if self.came == self.at_door {
             return Ok(Accepted::NoneWaiting);
+        }
+        if self.is_refused() {
+            return Ok(Accepted::NoResources);
         }
         let Some(plan) = self.coming.get(self.came) else {
             return Ok(Accepted::NoneWaiting);

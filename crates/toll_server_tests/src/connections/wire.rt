@@ -56,6 +56,8 @@ pub struct Log {
     pub turns: Cell<u64>,
     /// How many close before they are accepted, ahead of all others.
     pub aborted: Cell<u64>,
+    /// How often none can be accepted, after the first client.
+    pub refused: Cell<u64>,
     /// How many may be connected at once.
     pub most: Cell<usize>,
     /// How many had been accepted when the listeners were closed, if they were.
@@ -81,6 +83,7 @@ impl Log {
             tasks: Cell::new(0),
             turns: Cell::new(0),
             aborted: Cell::new(0),
+            refused: Cell::new(0),
             most: Cell::new(MOST_OPEN_CONNECTIONS),
             closed: Cell::new(None),
         }
