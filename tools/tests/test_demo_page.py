@@ -62,6 +62,7 @@ class Clone:
 
     def start(self, *words: str, **options: Any) -> "subprocess.Popen[str]":
         pipes: dict[str, Any] = {"stdout": subprocess.PIPE, "stderr": subprocess.PIPE, "env": self.environment}
+        pipes["preexec_fn"] = heed_interrupts
         process: subprocess.Popen[str] = subprocess.Popen([str(self.page), *words], text=True, **pipes | options)
         return process
 
@@ -69,6 +70,11 @@ class Clone:
         process = self.start(*words, **options)
         out, err = process.communicate(timeout=PATIENCE)
         return process.returncode, out, err
+
+
+def heed_interrupts() -> None:
+    """What a shell starts behind `&` ignores SIGINT, and so do all tests that it runs."""
+    signal.signal(signal.SIGINT, signal.SIG_DFL)
 
 
 @pytest.fixture

@@ -85,7 +85,7 @@ def test_an_operation_is_named_by_what_it_does() -> None:
 
 
 def test_the_routes_are_those_of_the_page_beside_it() -> None:
-    rows = re.findall(r"^\| `(/[\w/]+)` \|(.*?)\|(.*?)\|$", (ROOT / "docs" / "http.md").read_text(), re.M)
+    rows = re.findall(r"^\|`(/[\w/]+)`\|(.*?)\|(.*?)\|$", (ROOT / "docs" / "http.md").read_text(), re.M)
     page = {(method, route(path)) for path, *marks in rows for method, mark in zip(METHODS, marks) if mark.strip()}
     assert page == {(method, route(path)) for path, method, _ in operations()}
 
