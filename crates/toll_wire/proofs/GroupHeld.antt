@@ -6,15 +6,18 @@ use Rattle.std.specs.List.{list_any}
 use Rattle.toll_wire.proofs.Common.{drop-cons, take-append-drop, take_more, Vec, AllByRecursion, false≢true, Bytes, same_bytes, History, Meaning, Content, IsReading, KeepFault, Memory, Failure, Request, ParseResult, refused, request, saying_of, Text, Saying, By, Nobody, Says, MayBeReply, claimed_in, claims, IfSayingUnchanging}
 use Rattle.toll_base.specs.Words.{is_some_where}
 use Rattle.toll_base.specs.declared.decision.Change.{Change}
-use Rattle.toll_keep.proofs.Calls.{read_fault, read_memory, read_ok, reads_then}
+use Rattle.toll_base.specs.declared.decision.Change.TheVariants.{Owner, Put, Unit as UnitAdded}
+use Rattle.toll_keep.proofs.Calls.{kept_as, kept_fault, kept_memory, kept_then, read_fault, read_memory, read_ok, reads_then}
+use Rattle.toll_keep.specs.HeldFor.{KeepsHeld, PutsOutside}
 use Rattle.toll_protocol.proofs.Arrivals.{arrives_once}
 use Rattle.toll_protocol.specs.Parsing.{IsParsedAs}
 use Rattle.toll_wire.proofs.Served.{if_saying_follows}
-use Rattle.toll_wire.specs.Groups.{AreApart, AreHeld, AreHolding, AreSaid, IfAllUnchanging, IsGroup, IsUndone, MayBeReplies, comes_again, has_key, owner_in}
-use Rattle.toll_wire.specs.Held.{HoldCalls, IsHeld, IsHeldBack, IsHolding}
+use Rattle.toll_wire.specs.Groups.{AreApart, AreHeld, AreHeldKeeping, AreHolding, AreSaid, IfAllUnchanging, IsGroup, IsUndone, MayBeReplies, comes_again, has_key, owner_in}
+use Rattle.toll_wire.specs.Held.{HoldCalls, IsHeld, IsHeldBack, IsHeldBackKeeping, IsHolding}
 use Rattle.toll_wire.specs.Sayings.{IsSaidBy}
 use Rattle.toll_wire.specs.Steps.{may_write}
 use Rattle.toll_wire.specs.declared.holding.HeldReply.{HeldReply}
+use Rattle.toll_wire.specs.declared.together.HeldGroup.{HeldGroup}
 
 or_parts : (a b : Bool) → (a || b) ≡ false → (a ≡ false) × (b ≡ false)
 or_parts true b is = absurd (false≢true (sym is))
@@ -287,3 +290,52 @@ module _ {X Y : Type 0} (f : X → Y) (xs : List X) (i : ℕ) (d : X) (left : i 
 pub so_of_next : {X : Type 0} (P : X → Type 0) (first : List X) (x : X) (rest : List X) → AllByRecursion P (first ++ x ∷ rest) → P x
 so_of_next P [] x rest all = all.0
 so_of_next P (y ∷ first) x rest all = so_of_next P first x rest all.1
+
+-- ---- what is held for others
+
+puts_more : (os : List Bytes) (first more : List Change) → PutsOutside os first → PutsOutside os more → PutsOutside os (first ++ more)
+puts_more os [] more puts other = other
+puts_more os (Put o row ∷ first) more puts other = (puts.0, puts_more os first more puts.1 other)
+puts_more os (Owner row ∷ first) more puts other = absurd puts
+puts_more os (UnitAdded row ∷ first) more puts other = absurd puts
+
+module _ {K : Type 0} (meaning : Meaning K) (old middle new : K) (os : List Bytes) (changes : List Change) where
+  abbrev KeepSoFar : Type 0
+  KeepSoFar = AreHeldKeeping {X = Unit {0}} meaning old middle (Ok tt) os changes
+
+  -- one more is held back
+  pub keeping_more : KeepSoFar → (held : HeldReply) → IsHeldBackKeeping meaning middle new os (Ok held) → (made : List Change) → made ≡ changes ++ held.changes.items
+      → AreHeldKeeping {X = Unit {0}} meaning old new (Ok tt) os made
+  keeping_more (inl (kept, puts)) held (inl (more, other)) made are = inl (
+    kept_as meaning old new held tt (kept_then meaning old middle new tt (Ok held) kept more),
+    subst (PutsOutside os) (sym are) (puts_more os changes held.changes.items puts other),
+  )
+  keeping_more (inr (still, none)) held (inl (more, other)) made are = inl (
+    kept_as meaning old new held tt (subst (λ k. KeepsHeld meaning k new (Ok held)) still more),
+    subst (PutsOutside os) (sym (are ∙ ap (λ first. first ++ held.changes.items) none)) other,
+  )
+  keeping_more before held (inr (lacks, same)) made are = absurd (cc lacks)
+
+  -- or there is no memory for its changes
+  pub keeping_memory : KeepSoFar → (held : HeldReply) → IsHeldBackKeeping meaning middle new os (Ok held)
+      → AreHeldKeeping {X = HeldGroup} meaning old new (Err Memory) os []
+  keeping_memory before held back = elim (keeping_more before held back (changes ++ held.changes.items) refl) [
+    | inl kept ↦ inl (kept_memory meaning old new tt kept.0, tt)
+    | inr still ↦ inr (still.0, refl)
+  ]
+
+  -- or it met a fault
+  pub keeping_fault : KeepSoFar → (fault : KeepFault) → IsHeldBackKeeping meaning middle new os (Err fault)
+      → AreHeldKeeping {X = HeldGroup} meaning old new (Err fault) os []
+  keeping_fault (inl (kept, puts)) fault (inl (failed, none)) = inl (kept_fault meaning old new fault (kept_then meaning old middle new tt (Err fault) kept failed), tt)
+  keeping_fault (inr (still, none)) fault (inl (failed, puts)) = inl (kept_fault meaning old new fault (subst (λ k. KeepsHeld {X = HeldReply} meaning k new (Err fault)) still failed), tt)
+  keeping_fault (inl (kept, puts)) fault (inr (lacks, same)) =
+      let memory : fault ≡ Memory = cc lacks in
+      inl (subst₂ (λ k fault. KeepsHeld {X = HeldGroup} meaning old k (Err fault)) (sym same) (sym memory) (kept_memory meaning old middle tt kept), tt)
+  keeping_fault (inr (still, none)) fault (inr (lacks, same)) = inr (same ∙ still, refl)
+
+-- these are the group
+pub keeping_group : {K : Type 0} (meaning : Meaning K) (old new : K) (os : List Bytes) (changes : List Change) (group : HeldGroup)
+    → AreHeldKeeping {X = Unit {0}} meaning old new (Ok tt) os changes → AreHeldKeeping meaning old new (Ok group) os changes
+keeping_group meaning old new os changes group (inl (kept, puts)) = inl (kept_as meaning old new tt group kept, puts)
+keeping_group meaning old new os changes group (inr still) = inr still

@@ -6,10 +6,11 @@ use Rattle.toll_base.specs.Changes.{after_changes}
 use Rattle.toll_base.specs.declared.decision.Change.{Change}
 use Rattle.toll_base.specs.declared.rows.OwnerRow.{OwnerRow}
 use Rattle.toll_history.specs.OwnChanges.{PutsOnly}
-use Rattle.toll_keep.proofs.Calls.{Rests, answered, goes_fault, read_ok}
+use Rattle.toll_keep.proofs.Calls.{Rests, answered, goes_fault, kept_as, kept_fault, read_ok}
 use Rattle.toll_keep.proofs.StagedLemmas.{after_behind, fits_behind}
 use Rattle.toll_keep.specs.CallEffects.{Keeps}
 use Rattle.toll_keep.specs.Content.{after_owners, content_after}
+use Rattle.toll_keep.specs.HeldFor.{KeepsOneMore, PutsOutside}
 use Rattle.toll_desk.proofs.CommitLemmas.{commit_step, goes_on}
 use Rattle.toll_desk.proofs.SliceToContent.{leads_nowhere}
 use Rattle.toll_desk.proofs.StepLemmas.{step_as, store_uncalled}
@@ -21,10 +22,11 @@ use Rattle.toll_wire.proofs.Apart.{asked_alike, failed_alike, owners_kept, rows_
 use Rattle.toll_wire.proofs.Growth.{part-after_saying}
 use Rattle.toll_wire.proofs.Served.{if_saying_follows, keeps_still, so_unchanging, still_from}
 use Rattle.toll_wire.proofs.Valid.{IsValidSaying, lawful_after_saying, says_valid}
-use Rattle.toll_wire.specs.Groups.{AreApart, AreHeld, AreHolding, AreSaid, IfAllUnchanging, IsGroupRefused, MayBeReplies, after_sayings, comes_again, group_steps, has_key}
+use Rattle.toll_wire.specs.Groups.{AreApart, AreHeld, AreHeldKeeping, AreHolding, AreSaid, IfAllUnchanging, IsGroupRefused, LeavesHeld, MayBeReplies, after_sayings, comes_again, group_steps, has_key}
 use Rattle.toll_wire.specs.Held.{IsHeld, PutsFor}
 use Rattle.toll_wire.specs.Steps.{ReplyCalls, may_write}
 use Rattle.toll_wire.specs.declared.outgoing.Out.{Out}
+use Rattle.toll_wire.specs.declared.together.HeldGroup.{HeldGroup}
 
 -- ---- histories
 
@@ -301,3 +303,17 @@ module _ {K : Type 0} (meaning : Meaning K) (rests : Rests meaning) (old middle 
       }
       | inr not ↦ never_idle (same ∙ holding.asks (no_key_writes_none sayings not.0))
     ]
+
+-- ---- what is held for others
+
+module _ {K : Type 0} (meaning : Meaning K) (old middle new : K) (os : List Bytes) (group : HeldGroup) (made : List Change) (same : made ≡ group.changes.items)
+    (result : Result (Unit {0}) KeepFault) (commit : CommitEffect meaning middle new made result) where
+  pub together_keeps : AreHeldKeeping meaning old middle (Ok group) os group.changes.items → (PutsOutside os made → KeepsOneMore meaning middle new result)
+      → LeavesHeld meaning old new result
+  together_keeps (inl (kept, puts)) more = inl (more (subst (PutsOutside os) (sym same) puts) old (kept_as meaning old middle group tt kept))
+  together_keeps (inr (still, none)) more = inr ((commit.idle (same ∙ none)).0 ∙ still)
+
+pub undone_keeps : {K : Type 0} (meaning : Meaning K) (old new : K) (os : List Bytes) (fault : KeepFault)
+    → AreHeldKeeping {X = HeldGroup} meaning old new (Err fault) os [] → LeavesHeld {X = Unit {0}} meaning old new (Err fault)
+undone_keeps meaning old new os fault (inl (kept, puts)) = inl (kept_fault meaning old new fault kept)
+undone_keeps meaning old new os fault (inr (still, none)) = inr still

@@ -6,6 +6,7 @@ use Rattle.toll_base.specs.Words.{is_some_where}
 use Rattle.toll_base.specs.declared.decision.Change.{Change}
 use Rattle.toll_history.specs.Runs.{IsRun}
 use Rattle.toll_keep.specs.CallEffects.{CallEffect, FindsNoDamage, IsReading}
+use Rattle.toll_keep.specs.HeldFor.{KeepsHeld, PutsOutside}
 use Rattle.toll_keep.specs.Meaning.{OverContent}
 use Rattle.toll_desk.specs.Reads.{Over}
 use Rattle.toll_desk.specs.Steps.{Calls, IsKeepStep, StepKind}
@@ -138,3 +139,25 @@ module _ {K : Type 0} (meaning : Meaning K) (old new : K) where
   IsGroupServed requests (Refused count fault) =
       (sayings : List Saying) × IsGroup requests sayings × (count ≡ length sayings)
       × IsKeepStep meaning group_steps old sayings (map (λ s. Unavailable) sayings) new × IsGroupRefused sayings fault
+
+-- ---- requests of other owners
+
+-- the changes of a group that is held back
+abbrev pub changes_together : Result HeldGroup KeepFault → List Change
+changes_together (Ok group) = group.changes.items
+changes_together (Err fault) = []
+
+-- whether the calls of the keep succeeded
+abbrev pub outcome_of : GroupEnd → Result (Unit {0}) KeepFault
+outcome_of (Done replies) = Ok tt
+outcome_of (Undone fault) = Err fault
+outcome_of (Refused count fault) = Err fault
+
+module _ {K X : Type 0} (meaning : Meaning K) (old new : K) (result : Result X KeepFault) where
+  -- What is held for these owners stays, and the changes put rows of others; or the keep is untouched, and there are no changes.
+  abbrev pub AreHeldKeeping : List Bytes → List Change → Type 0
+  AreHeldKeeping os changes = (KeepsHeld meaning old new result × PutsOutside os changes) ⊎ ((new ≡ old) × (changes ≡ []))
+
+  -- What is held stays, and a stop leaves it: the calls of the keep kept it, whatever they answered; or the keep is untouched.
+  abbrev pub LeavesHeld : Type 0
+  LeavesHeld = KeepsHeld meaning old new result ⊎ (new ≡ old)

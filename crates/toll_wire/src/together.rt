@@ -6,7 +6,7 @@ ghost use Rattle.toll_base.specs.Bytes.{Bytes, same_bytes};
 ghost use Rattle.toll_base.specs.Words.{is_some_where};
 ghost use Rattle.toll_keep.specs.Meaning.{meaning_for};
 ghost use Rattle.toll_protocol.specs.Parsed.{parse_outcome};
-ghost use Rattle.toll_wire.specs.Groups.{IsGroupHeld, IsGroupServed, owner_in};
+ghost use Rattle.toll_wire.specs.Groups.{AreHeldKeeping, IsGroupHeld, IsGroupServed, LeavesHeld, changes_together, outcome_of, owner_in};
 ghost use Rattle.toll_wire.specs.Sayings.{AreOfOneOf};
 
 use crate::holding::hold_with_router;
@@ -51,6 +51,8 @@ pub fn answer_together<K: Keep>(
     ensures served { IsGroupServed K.meaning keep.old keep.new (map (λ request. request.now) requests.now) result }
     ensures alone { (os : List Bytes) → AllByRecursion (AreOfOneOf os) (map (λ request. request.now) requests.now)
         → IsGroupServed (meaning_for K.meaning K.part os) keep.old keep.new (map (λ request. request.now) requests.now) result }
+    ensures others { (os : List Bytes) → AllByRecursion (λ bytes. ¬ (AreOfOneOf os bytes)) (map (λ request. request.now) requests.now)
+        → LeavesHeld (meaning_for K.meaning K.part os) keep.old keep.new (outcome_of result) }
 {
     match hold_group(alloc, router, keep, requests) {
         Ok(group) => match commit(alloc, keep, &group.changes) {
@@ -74,6 +76,8 @@ fn hold_group<K: Keep>(
     ensures holds { IsGroupHeld K.meaning keep.old keep.new (map (λ request. request.now) requests.now) result }
     ensures alone { (os : List Bytes) → AllByRecursion (AreOfOneOf os) (map (λ request. request.now) requests.now)
         → IsGroupHeld (meaning_for K.meaning K.part os) keep.old keep.new (map (λ request. request.now) requests.now) result }
+    ensures others { (os : List Bytes) → AllByRecursion (λ bytes. ¬ (AreOfOneOf os bytes)) (map (λ request. request.now) requests.now)
+        → AreHeldKeeping (meaning_for K.meaning K.part os) keep.old keep.new result os (changes_together result) }
 {
     let mut owners = Vec::with_capacity(alloc, requests.len())?;
     let mut replies = Vec::with_capacity(alloc, requests.len())?;

@@ -4,8 +4,8 @@ use Rattle.toll_base.specs.declared.decision.Change.{Change}
 use Rattle.toll_keep.specs.Meaning.{meaning_for}
 use Rattle.toll_protocol.specs.Parsed.{parse_outcome}
 use Rattle.toll_wire.proofs.Common.{AllByRecursion, Bytes, Memory, take_all}
-use Rattle.toll_wire.proofs.GroupHeld.{group_before, group_of_all, is_claimed_among, map_more, so_far_next, so_of_next, split_next, taken_next, undone_changes, undone_fault}
-use Rattle.toll_wire.specs.Groups.{IsGroupHeld, owner_in}
+use Rattle.toll_wire.proofs.GroupHeld.{group_before, group_of_all, is_claimed_among, keeping_fault, keeping_group, keeping_memory, keeping_more, map_more, so_far_next, so_of_next, split_next, taken_next, undone_changes, undone_fault}
+use Rattle.toll_wire.specs.Groups.{AreHeldKeeping, IsGroupHeld, changes_together, owner_in}
 use Rattle.toll_wire.specs.Sayings.{AreOfOneOf}
 use Rattle.toll_wire.proofs.together.hold_group.Goals as goal
 
@@ -18,6 +18,10 @@ no_reference = record { ref_ptr = (0, 0); now = [] }
 
 abbrev values_of : List (Option (Bor Bytes)) → List (Option Bytes)
 values_of owners = map (λ owner. option_map value_of owner) owners
+
+-- the request is of another owner than these
+abbrev IsOfNone : List Bytes → Bytes → Type 0
+IsOfNone os bytes = ¬ (AreOfOneOf os bytes)
 
 -- what was found of the owners that were read is so of those that are claimed
 found_among : (r b : Bool) (owners read : List (Option (Bor Bytes))) (claimed : Option (Bor Bytes)) (owner : Option Bytes) → r ≡ is_claimed_among (values_of read) (option_map value_of claimed)
@@ -127,6 +131,39 @@ returns-clause-alone g c = λ os each.
     group_of_all (meaning_for g.K.Keep.meaning g.K.Keep.part os) c.args.keep.now at.keep (map value_of requests) (map value_of (take at.request-index requests)) (values_of at.owners.items) at.replies.items at.changes.items
     (c.loop-request.invariant.alone os each) (ap (map value_of) (sym (take_all at.request-index requests c.loop-request-test.false)))
 
+pub returns-then-claims_again-clause-others : goal.returns-then-claims_again-clause-others
+returns-then-claims_again-clause-others g c = λ os each.
+    let at = c.loop-request in
+    keeping_group (meaning_for g.K.Keep.meaning g.K.Keep.part os) c.args.keep.now at.keep os at.changes.items _ (c.loop-request.invariant.others os each)
+
+pub returns-in_err-held-clause-others : goal.returns-in_err-held-clause-others
+returns-in_err-held-clause-others g c = λ os each.
+    let m = meaning_for g.K.Keep.meaning g.K.Keep.part os in
+    let at = c.loop-request in
+    let i = at.request-index in
+    let requests = c.args.requests.now in
+    let bytes = (get_or requests i no_reference).now in
+    let fault = c.in_err-held.field-0.0 in
+    let is : c.from_residual-in_err-held.result ≡ Err fault = search rules in
+    subst (λ r. AreHeldKeeping m c.args.keep.now c.hold_with_router.new.keep r os (changes_together r)) (sym is)
+    (keeping_fault m c.args.keep.now at.keep c.hold_with_router.new.keep os at.changes.items (c.loop-request.invariant.others os each) fault (c.in_err-held.ensures.others os bytes c.parse_http-parsed.ensures (so_of_next (IsOfNone os) (map value_of (take i requests)) bytes (map value_of (drop (suc i) requests)) (subst (AllByRecursion (IsOfNone os)) (split_next value_of requests i no_reference c.loop-request-test.true) each))))
+
+pub returns-in_err-extend_from_slice-clause-others : goal.returns-in_err-extend_from_slice-clause-others
+returns-in_err-extend_from_slice-clause-others g c = λ os each.
+    let m = meaning_for g.K.Keep.meaning g.K.Keep.part os in
+    let at = c.loop-request in
+    let i = at.request-index in
+    let requests = c.args.requests.now in
+    let bytes = (get_or requests i no_reference).now in
+    let is : c.from_residual-in_err-extend_from_slice.result ≡ Err Memory = search rules in
+    subst (λ r. AreHeldKeeping m c.args.keep.now c.hold_with_router.new.keep r os (changes_together r)) (sym is)
+    (keeping_memory m c.args.keep.now at.keep c.hold_with_router.new.keep os at.changes.items (c.loop-request.invariant.others os each) c.in_ok-held.held (c.in_ok-held.ensures.others os bytes c.parse_http-parsed.ensures (so_of_next (IsOfNone os) (map value_of (take i requests)) bytes (map value_of (drop (suc i) requests)) (subst (AllByRecursion (IsOfNone os)) (split_next value_of requests i no_reference c.loop-request-test.true) each))))
+
+pub returns-clause-others : goal.returns-clause-others
+returns-clause-others g c = λ os each.
+    let at = c.loop-request in
+    keeping_group (meaning_for g.K.Keep.meaning g.K.Keep.part os) c.args.keep.now at.keep os at.changes.items _ (c.loop-request.invariant.others os each)
+
 pub loop-request-preserved : goal.loop-request-preserved
 loop-request-preserved g c =
     let K = g.K.Keep in
@@ -159,4 +196,8 @@ loop-request-preserved g c =
           so_far_next (meaning_for K.meaning K.part os) c.args.keep.now at.keep new first owners at.replies.items at.changes.items (at.invariant.alone os each) bytes outcome
           c.parse_http-parsed.ensures other held (c.in_ok-held.ensures.alone os bytes c.parse_http-parsed.ensures its) more (values_of pushed) replies made more_are owners_are
           c.push_reserved-in-loop-request.ensures.items made_are;
+      others = λ os each.
+          let its = so_of_next (IsOfNone os) first bytes (map value_of (drop (suc i) requests)) (subst (AllByRecursion (IsOfNone os)) (split_next value_of requests i no_reference c.loop-request-test.true) each) in
+          keeping_more (meaning_for K.meaning K.part os) c.args.keep.now at.keep new os at.changes.items (at.invariant.others os each) held
+          (c.in_ok-held.ensures.others os bytes c.parse_http-parsed.ensures its) made made_are;
     }

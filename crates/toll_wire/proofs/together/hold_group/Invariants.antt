@@ -1,9 +1,10 @@
 -- The requests so far are held back, and there is room for the others.
-use Rattle.std.proofs.Common.{◌≡◌, ◌≤◌, List, length, map, take, vec_len, vec_capacity}
+use Rattle.std.proofs.Common.{◌≡◌, ◌≤◌, List, length, map, take, vec_len, vec_capacity, Ok}
 use Rattle.std.specs.Option.{option_map}
 use Rattle.toll_keep.specs.Meaning.{meaning_for}
 use Rattle.toll_wire.proofs.Common.{AllByRecursion, Bytes}
 use Rattle.toll_wire.proofs.GroupHeld.{IsSoFar}
+use Rattle.toll_wire.specs.Groups.{AreHeldKeeping}
 use Rattle.toll_wire.specs.Sayings.{AreOfOneOf}
 use Rattle.toll_wire.proofs.together.hold_group.Given as goal
 
@@ -20,4 +21,6 @@ invariant-loop-request g l =
       so_far : IsSoFar K.meaning l.fn.keep l.keep requests owners l.replies.items l.changes.items;
       alone : (os : List Bytes) → AllByRecursion (AreOfOneOf os) (map (λ request. request.now) l.requests)
           → IsSoFar (meaning_for K.meaning K.part os) l.fn.keep l.keep requests owners l.replies.items l.changes.items;
+      others : (os : List Bytes) → AllByRecursion (λ bytes. ¬ (AreOfOneOf os bytes)) (map (λ request. request.now) l.requests)
+          → AreHeldKeeping {X = Unit {0}} (meaning_for K.meaning K.part os) l.fn.keep l.keep (Ok tt) os l.changes.items;
     }
