@@ -254,7 +254,7 @@ ADDRESSES = {
 OF_ROLES = {"record": {"anna", "frida"}, "quality": {"quinn", "frida"}, "quality or record": {"anna", "quinn", "frida"}}
 OTHERS = [("/lot/ACME/S-1", {"what": "sign", "password": "x"}, "quality"), ("/lot/HOUSE/W-101", {"what": "release"}, "quality"), ("/batch/ACME/O-1/1", {"what": "close"}, "record"),
           ("/batch/ACME/O-1/1", {"what": "produce", "material": "BRINE", "segment": "2", "key": "K90", "lot": "B-1", "sublot": "TOTE1", "amount": "5", "day": "103"}, "record"),
-          ("/case", {"owner": "ACME", "lot": "S-1", "reason": "x"}, "record"), ("/case/C-1", {"what": "hold"}, "record"), ("/case/C-1", {"what": "close", "reason": "x"}, "record"),
+          ("/case", {"owner": "ACME", "lot": "S-1", "reason": "x"}, "quality or record"), ("/case/C-1", {"what": "hold"}, "quality or record"), ("/case/C-1", {"what": "close", "reason": "x"}, "quality or record"),
           ("/count", {"owner": "ACME", "lot": "S-1", "sublot": "BAY1", "on_hand": "4700", "counted": "4690", "reason": "x", "meant": "yes"}, "record")]
 ENTRANCE = {"/login", "/static/desk.css"}
 
