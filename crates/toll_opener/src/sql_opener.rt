@@ -10,7 +10,9 @@ use std::fs::OpenOptions;
 use std::io::ErrorKind;
 use std::os::unix::fs::OpenOptionsExt;
 use toll_base::Name;
-use toll_files::{FILE_MODE, Lease, LeftFiles, LockFile, LockPath, OfficeFault, PathFiles, check_mark};
+use toll_files::{
+    FILE_MODE, Lease, LeftFiles, LockFile, LockPath, OfficeFault, PathFiles, check_mark,
+};
 use toll_keep::CachedKeep;
 use toll_service::{KeepOpener, OfficePath};
 use toll_sql::{OpenFault, SqlKeep};

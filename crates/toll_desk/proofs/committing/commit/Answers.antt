@@ -63,7 +63,6 @@ returns-clause-alone g c = λ os.
       crash = makes.crash;
     }
 
-
 pub returns-clause-others : goal.returns-clause-others
 returns-clause-others g c = λ os outside first kept.
     kept_then (meaning_for g.K.Keep.meaning g.K.Keep.part os) first c.args.keep.now c.apply.new.self tt c.apply.result kept (c.apply.ensures.others os outside)

@@ -95,7 +95,6 @@ returns-in-Ok-Some-clause-others g c = λ os.
     let m = meaning_for g.K.Keep.meaning g.K.Keep.part os in
     kept_then m c.args.keep.now c.admit.new.keep c.plan_for.new.keep _ _ (kept_of m (c.in-Ok-Some.ensures.alone os)) (c.plan_for.ensures.others os)
 
-
 pub returns-in-Err-clause-others : goal.returns-in-Err-clause-others
 returns-in-Err-clause-others g c = λ os.
     let m = meaning_for g.K.Keep.meaning g.K.Keep.part os in

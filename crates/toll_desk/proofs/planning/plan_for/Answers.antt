@@ -79,7 +79,6 @@ pub returns-in-Ok-clause-others : goal.returns-in-Ok-clause-others
 returns-in-Ok-clause-others g c = λ os.
     c.in-Ok.ensures.others os c.args.keep.now (kept_as (meaning_for g.K.Keep.meaning g.K.Keep.part os) c.args.keep.now c.slice.new.self _ tt (c.in-Ok-Some.ensures.others os))
 
-
 pub returns-clause-others : goal.returns-clause-others
 returns-clause-others g c = λ os.
     let m = meaning_for g.K.Keep.meaning g.K.Keep.part os in

@@ -87,7 +87,6 @@ returns-in-Ok-clause-own g c os own honest content H held stands lawful rows =
       reported = refl;
     })
 
-
 pub returns-in-Ok-clause-others : goal.returns-in-Ok-clause-others
 returns-in-Ok-clause-others g c os first kept =
     let m = meaning_for g.K.Keep.meaning g.K.Keep.part os in
