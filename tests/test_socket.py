@@ -28,7 +28,7 @@ from tests import socket_client as client
 from tests.attempts import Import, New
 from tests.harness import ACCEPTED, FAIL, KILLED_AFTER, KILLED_BEFORE, NO_NETWORK, PATIENCE, REPEATED, STOPPED_AT_MODE
 from tests.harness import UNAVAILABLE, Disk, Office, Result, Server
-from tests.harness import content, eventually, fault, meanwhile, put, serving, wrong_outcomes
+from tests.harness import content, eventually, fault, import_report, meanwhile, put, serving, wrong_outcomes
 from tests.lines import ACTUALS, many_actuals
 
 LOCKED, LOST, NOT_OURS, DAMAGED = (fault(name) for name in ("Locked", "Lost", "NotOurs", "Damaged"))
@@ -51,6 +51,7 @@ do ACME O 1 stop; do ACME O 1 done; close ACME O 1; open ACME O U1; orders ACME;
 stock HOUSE; batch ACME O 1; batch ACME O 2; trace ACME P1 back; trace ACME A forward; recall ACME A;
 recall ACME NONE; no such words; stock; stock ACME --all"""
 
+LONGEST_FILE = 1_048_576  # bytes
 # Files of actuals that are imported, each twice.
 IMPORTS = {
     "whole": ACTUALS,
@@ -135,6 +136,17 @@ def test_each_command_and_import_answers_and_leaves_the_same_with_a_server_and_w
         mode = os.stat(client.path_of(served)).st_mode
         assert stat.S_ISSOCK(mode) and stat.S_IMODE(mode) == 0o600
     assert content(alone.db) == content(served.db)
+
+
+def test_of_a_file_that_is_a_byte_too_long_no_record_acts(at_work: Office) -> None:
+    before = content(at_work.db)
+    longer = at_work.write("longer.csv", ACTUALS.ljust(LONGEST_FILE + 1, "\n"))
+    longest = at_work.write("longest.csv", ACTUALS.ljust(LONGEST_FILE, "\n"))
+    assert at_work.plant("import", longer) == Result(2, "", "too long\n")
+    with at_work.serve():
+        assert at_work.plant("import", longer) == Result(2, "", "too long\n")
+    assert content(at_work.db) == before
+    assert at_work.plant("import", longest) == Result(0, import_report(["accepted", "accepted", "repeated"]))
 
 
 def test_an_answer_that_cannot_be_written_ends_with_3_and_what_was_done_stands(at_work: Office) -> None:
