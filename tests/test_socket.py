@@ -399,6 +399,7 @@ def test_what_others_wrote_is_seen_if_a_look_at_the_files_fails(disk: Disk) -> N
             by_others(disk, f"INSERT INTO orders VALUES ('ACME', 'X-{number}', 'R', 1, 0)")
             disk.disturb(number, FAIL, errno.EIO)
             assert f'"X-{number}"' in server.ask(ORDERS) or f'"X-{number}"' in server.ask(ORDERS), number
+        assert not any("NotOurs" in line for line in server.lines()), "a look that fails tells no loss"
 
 
 def test_a_link_to_the_file_is_the_file_with_one_lock_and_one_socket(at_work: Office) -> None:
