@@ -425,6 +425,17 @@ def test_a_pipe_in_the_place_of_the_file_is_refused_at_once(new: New) -> None:
         assert server.ask(ORDERS).startswith("503 ") and server.lines() == ["fault NotOurs began"]
 
 
+def test_a_pipe_in_the_place_of_the_log_is_refused_at_once(at_work: Office) -> None:
+    with at_work.serve() as server:
+        assert server.ask(ORDER % "O-2").startswith(
+            "200 "
+        ), "so FILE.lock marks a commit, which is looked for in the log"
+    os.unlink(f"{at_work.db}-wal")
+    os.mkfifo(f"{at_work.db}-wal")
+    began = time.monotonic()
+    assert at_work.plant("stock", "ACME") == NOT_OURS and time.monotonic() - began < 5
+
+
 def test_a_server_whose_lines_nobody_reads_goes_on_and_tells_later_how_many_it_dropped(at_work: Office) -> None:
     out, into = os.pipe()
     fcntl.fcntl(into, fcntl.F_SETPIPE_SZ, 4096)
