@@ -305,6 +305,13 @@ def test_faults_are_said_when_they_begin_and_end_and_a_changed_file_when_it_is_o
         assert re.fullmatch(r"opened anew in \d+ ms", "\n".join(server.lines()[2:]))
 
 
+def test_a_lock_that_others_share_is_not_taken(at_work: Office) -> None:
+    with open(f"{at_work.db}.lock") as shared:
+        fcntl.flock(shared, fcntl.LOCK_SH)
+        assert at_work.plant("unit-add", "U2") == LOCKED
+    assert at_work.plant("unit-add", "U2") == ACCEPTED
+
+
 def test_a_fault_that_follows_another_begins_when_that_one_has_ended(at_work: Office) -> None:
     with at_work.serve() as server:
         with locked(at_work):
