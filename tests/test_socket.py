@@ -28,7 +28,8 @@ from tests import socket_client as client
 from tests.attempts import Import, New
 from tests.harness import ACCEPTED, FAIL, KILLED_AFTER, KILLED_BEFORE, NO_NETWORK, PATIENCE, REPEATED, STOPPED_AT_MODE
 from tests.harness import UNAVAILABLE, Disk, Office, Result, Server
-from tests.harness import content, eventually, fault, import_report, meanwhile, put, serving, wrong_outcomes
+from tests.harness import content, eventually, fault, import_report, meanwhile, put, read_all, request, serving
+from tests.harness import wrong_outcomes
 from tests.lines import ACTUALS, many_actuals
 
 LOCKED, LOST, NOT_OURS, DAMAGED = (fault(name) for name in ("Locked", "Lost", "NotOurs", "Damaged"))
@@ -235,6 +236,29 @@ def test_the_socket_of_a_server_that_died_is_taken_by_the_one_that_goes_on(at_wo
         time.sleep(1.1)
         second.ask(ORDERS)
         assert has_socket(at_work) and second.lines() == [DOOR_BEGAN, DOOR_ENDED]
+
+
+def test_a_server_leaves_the_socket_that_another_made_in_the_place_of_its_own(at_work: Office) -> None:
+    with at_work.serve(count=1) as first:
+        os.unlink(client.path_of(at_work))
+        with at_work.serve() as second:
+            assert has_socket(at_work) and second.lines() == []
+            assert is_answered(first) and first.has_ended(PATIENCE)
+            assert has_socket(at_work, "U-TOO")
+
+
+def test_clients_of_the_plant_that_go_before_they_are_taken_cost_no_owner_its_connection(at_work: Office) -> None:
+    half, rest = request(ORDERS)[:20], request(ORDERS)[20:]
+    with at_work.serve() as server, server.connect() as owner:
+        owner.sendall(half)
+        assert is_answered(server), "so the half is taken, too"
+        server.process.send_signal(signal.SIGSTOP)
+        for _ in range(3):
+            client.connect(client.path_of(at_work)).close()
+        server.process.send_signal(signal.SIGCONT)
+        assert is_answered(server)
+        owner.sendall(rest)
+        assert read_all(owner).startswith(b"HTTP/1.1 200") and server.lines() == []
 
 
 def is_refused_to_nobody(path: str) -> bool:
