@@ -295,6 +295,16 @@ def test_another_user_cannot_use_the_socket_and_a_socket_of_another_user_is_not_
             assert server.lines() == [DOOR_BEGAN]
 
 
+def test_words_go_to_no_other_office_by_a_link_in_the_sockets_place(at_work: Office, new: New, work: str) -> None:
+    other, path = new(), client.path_of(at_work)
+    put(work, other.db)
+    os.unlink(path)
+    with other.serve():
+        os.symlink(client.path_of(other), path)
+        assert at_work.plant("unit-add", "U2") == ACCEPTED
+        assert other.plant("unit-add", "U2") == ACCEPTED, "the other office has got it already"
+
+
 def is_stopped(pid: int) -> bool:
     return pathlib.Path(f"/proc/{pid}/stat").read_text().rpartition(")")[2].split()[0] == "T"
 
@@ -727,10 +737,10 @@ def test_behind_the_handshake_a_command_waits_for_its_answer_as_long_as_it_takes
 
 @contextlib.contextmanager
 def false_server(
-    office: Office, greeting: bytes, reply: bytes | None = None, ends: bool = False
+    office: Office, greeting: bytes, reply: bytes | None = None, ends: bool = False, seconds: float = 0
 ) -> Iterator[list[bytes]]:
-    """A socket of ours, which greets who comes, and ends or takes a byte, or replies where it has a reply; with what
-    it took."""
+    """A socket of ours, which greets who comes, and ends or takes a byte, or replies where it has a reply, after so
+    many seconds; with what it took."""
     path, received = client.path_of(office), list[bytes]()
     pathlib.Path(path).unlink(missing_ok=True)
 
@@ -740,6 +750,7 @@ def false_server(
                 self.request.sendall(greeting)
                 if not ends:
                     received.append(self.request.recv(1) if reply is None else client.take_parcel(self.request))
+                    time.sleep(seconds)
                     self.request.sendall(reply or b"")
 
     with serving(socketserver.UnixStreamServer(path, Playing)):
@@ -789,6 +800,21 @@ def test_an_answer_is_passed_on_as_it_is(at_work: Office, greeting: bytes) -> No
         assert at_work.plant("unit-add", "U2") == Result(1, "one\n", "two\n")
         assert at_work.plant("unit-add", "U2", closed="2>&1") == Result(1, "one\ntwo\n")
     assert received == [client.question("unit-add", "U2")] * 2
+
+
+def test_an_answer_that_comes_after_more_than_the_handshakes_time_is_waited_for(
+    at_work: Office, greeting: bytes
+) -> None:
+    with false_server(at_work, greeting, ANSWERED, seconds=6):
+        assert at_work.plant("unit-add", "U2") == ACCEPTED
+
+
+@pytest.mark.skipif(os.geteuid() != 0, reason="only root can be another user")
+def test_another_users_socket_that_greets_rightly_is_asked_nothing(at_work: Office, greeting: bytes) -> None:
+    with false_server(at_work, greeting, ANSWERED) as received:
+        os.chown(client.path_of(at_work), NOBODY, NOBODY)
+        assert at_work.plant("owner-add", "COLT", "COLTKEY1") == ACCEPTED
+    assert received == [] and at_work.plant("owner-add", "COLT", "COLTKEY1").status == 1
 
 
 # Clients that end or are killed
