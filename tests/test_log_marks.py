@@ -13,8 +13,8 @@ from typing import Any
 
 import pytest
 
-from tests.harness import ACCEPTED, FAIL, KILLED_AFTER, KILLED_BEFORE, PATIENCE, TORN, UNAVAILABLE, Disk, Office
-from tests.harness import Result, Server, content, fault, put
+from tests.harness import ACCEPTED, FAIL, KILLED_AFTER, KILLED_BEFORE, PATIENCE, SHORT, TORN, UNAVAILABLE, Disk
+from tests.harness import Office, Result, Server, content, fault, put
 
 DAMAGED = fault("Damaged")
 ORDER = '> ACME ACMEKEY1 POST /orders {"order":"N-%d","recipe":"R","batches":1}'
@@ -435,6 +435,23 @@ def test_a_marked_log_that_cannot_be_opened_or_read_is_no_loss(disks: list[Disk]
     assert {
         at: answer for at, answer in answers.items() if answer not in (wanted, fault("Disk"), fault("Locked"))
     } == {}
+
+
+@pytest.mark.parametrize("most", [12, pytest.param(1000, marks=pytest.mark.long)])
+def test_a_marked_log_that_is_read_in_parts_is_no_loss(disks: list[Disk], work: str, most: int) -> None:
+    office = disks[0]
+
+    def answer_while_short(at: int) -> Result:
+        """What a command says of a log that a killed server marked, while this read of the files gives the half."""
+        put(work, office.db)
+        place_orders(office, 3)
+        office.disturb(at, SHORT)
+        return office.plant("orders", "ACME", env=office.env)
+
+    wanted = answer_while_short(0)
+    points = [at for at, kind in enumerate(office.calls(), 1) if kind == "r"][:most]
+    assert wanted.status == 0 and points
+    assert {at: answer for at in points if (answer := answer_while_short(at)) != wanted} == {}
 
 
 @pytest.mark.parametrize("step", [7, pytest.param(1, marks=pytest.mark.long)])
