@@ -193,9 +193,29 @@ def test_a_correction_isn_t_corrected_or_withdrawn_but_followed(shipped):
     again = shipped.run("correct", "ACME", key, "--amount", 5, *REASON)
     assert again.status == 1 and f"{key} of ACME is itself a correction of K7 of ACME" in again.err
     withdrawn = shipped.run("note", "withdraw", name, "--reason", "no")
-    assert withdrawn.status == 1 and "is a correction, which nobody withdraws" in withdrawn.err
+    assert withdrawn.status == 1 and "is of a correction, which nobody withdraws" in withdrawn.err
     assert shipped.run("correct", "ACME", "K7", "--amount", 480, *REASON).status == 0
     assert json.loads(shipped.run("show", "lot", "ACME", "B-1", "--json").out)["who has it"][0]["amount"] == 480
+
+
+def test_nothing_that_a_correction_notes_is_withdrawn(shipped):
+    """Neither what says that a movement sets the stock right, nor a link by which no recall loses a line, nor who got it."""
+    assert shipped.run("receive", "ACME", "K8", "SALT", "S-2", "BAY2", 900, 103).out == "accepted\n"
+    with shipped.serve() as server:
+        assert server.ask("ACME", "POST", "/lots/S-2/release")[0] == 200
+    assert shipped.run("party", "add", "ACME", "SUED", "--name", "Sued", "--role", "customer").status == 0
+    known = {note["note"] for note in json.loads(shipped.run("note", "list", "--json").out)}
+    assert shipped.run("correct", "ACME", "K7", "--amount", 48, "--to", "SUED", *REASON).status == 0
+    assert shipped.run("correct", "ACME", "K2", "--lot", "S-2", "--sublot", "BAY2", *REASON).status == 0
+    notes = [note for note in json.loads(shipped.run("note", "list", "--json").out) if note["note"] not in known]
+    recalls, statement = shipped.run("recall", "ACME", "S-1").out, shipped.run("years", "statement", "ACME", "--csv").out
+    assert {note["what"].split(" ")[0] for note in notes} >= {"lot", "movement", "K7", "K2"} and len(notes) >= 7, notes
+    for note in notes:
+        done = shipped.run("note", "withdraw", note["note"], "--reason", "no")
+        assert done.status == 1 and "is of a correction, which nobody withdraws" in done.err, (note, done)
+    assert shipped.run("recall", "ACME", "S-1").out == recalls and shipped.run("years", "statement", "ACME", "--csv").out == statement
+    own = shipped.run("link", "ACME", "S-2", "S-1", "--why", "rework").out.split()[-1]
+    assert shipped.run("note", "withdraw", own, "--reason", "no").status == 0
 
 
 def test_another_person_signs(shipped):

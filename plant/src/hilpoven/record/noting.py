@@ -15,7 +15,7 @@ from ..model.quality import facts_of_test
 from ..model.measures import limits_text
 from ..model.nearest import nearest
 from ..model.notes import (
-    Corrected,
+    CorrectionAsked,
     Corrects,
     Judgement,
     Link,
@@ -37,7 +37,7 @@ from ..model.notes import (
     joined,
     percent_of,
 )
-from ..model.register.standing import closings_in, statuses
+from ..model.register.standing import Status, closings_in, statuses
 from ..model.genealogy import suspects
 from ..model.register.tables import storable, subject_of
 from ..model.rows import BatchId, LotId, require_owner, row_of
@@ -125,9 +125,7 @@ def withdraw(context: Context, name: str, reason: str) -> Recorded:
         if isinstance(changed, Judgement):
             advice = "`hilpoven sign` or `hilpoven hold` says what holds now"
             raise Failure(f"note {name} is a signature or a hold, which nobody withdraws", REFUSED, advice)
-        if isinstance(changed, Corrected):
-            advice = "`hilpoven correct` says what was meant then"
-            raise Failure(f"note {name} is a correction, which nobody withdraws", REFUSED, advice)
+        require_no_correction(desk, status)
         if isinstance(status.note, RowsLost):
             raise Failure(f"note {name} is what a restore noted, which nobody withdraws", REFUSED)
         require_last_closing(desk, status.note, changed)
@@ -138,6 +136,20 @@ def withdraw(context: Context, name: str, reason: str) -> Recorded:
         ]
         notes = [Withdrawal(status.note.owner, of, reason) for of in (name, *same)]
         return Recorded(desk.record(["note", "withdraw", name, "--reason", reason], *notes))
+
+
+def require_no_correction(desk: Desk, status: Status) -> None:
+    """Fails if `correct` made a note: what was meant by whom, that a movement sets the stock right, or a link by which no
+    recall loses a line. What only was asked for may be withdrawn."""
+    noted, note = status.noted, status.note
+    if noted.is_own:
+        is_made = noted.words[:1] == ("correct",) and not isinstance(note, CorrectionAsked)
+    else:
+        is_by_void = isinstance(note, Link) and noted.words[:1] == ("void",)
+        is_made = is_by_void or bool(statuses(desk.notes, Corrects, line=noted.line, is_own=0))
+    if is_made:
+        advice = "`hilpoven correct` says what was meant then"
+        raise Failure(f"note {noted.name} is of a correction, which nobody withdraws", REFUSED, advice)
 
 
 def maker_of(note: Note) -> str:
