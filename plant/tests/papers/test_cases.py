@@ -106,6 +106,11 @@ def status(plant, *words):
     return [{name: cell.removeprefix('="').removesuffix('"') for name, cell in row.items()} for row in rows(plant.run("case", "status", "--csv", *words).out)]
 
 
+def letters_in(target):
+    """Of which owner and to which customer there are letters."""
+    return sorted(path.parts[-3:-1] for path in target.glob("letters/*/*/letter.html"))
+
+
 def test_a_case_from_a_supplier_s_lot_over_three_files_to_its_last_answer(office):
     done = office.run("case", "open", "--supplier-lot", "tr-77", *REASON)
     assert done.status == 0 and done.out.splitlines()[0].startswith("case C-1 began on ")
@@ -122,9 +127,9 @@ def test_a_case_from_a_supplier_s_lot_over_three_files_to_its_last_answer(office
     # letters
     target = office.folder / "case"
     assert office.run("case", "paper", target, "--no-pdf").status == 0
-    assert sorted(path.name for path in (target / "letters").iterdir()) == ["ACME-ACMENORD", "BOLT-BOLTNORD"]
+    assert letters_in(target) == [("ACME", "ACMENORD"), ("BOLT", "BOLTNORD")]
     for owner, other in (OWNERS, OWNERS[::-1]):
-        texts = "".join(path.read_text() for path in (target / "letters" / f"{owner}-{owner}NORD").iterdir())
+        texts = "".join(path.read_text() for path in (target / "letters" / owner / f"{owner}NORD").iterdir())
         assert other not in texts and "TR-77" not in texts and "metal" not in texts and "W-1" not in texts and "<i>" not in texts
         assert all(word in texts for word in ("B-1", "B-2", f"DOC-{owner}-K20", "C-1", f"{owner}NORD Ltd &lt;i&gt;"))
     contacts = rows((target / "plant" / "contacts.csv").read_text())
@@ -143,6 +148,24 @@ def test_a_case_from_a_supplier_s_lot_over_three_files_to_its_last_answer(office
     assert "customers that answered: 2 of 2, 100.0 %" in text and "accounted for, kg: 224 of 224, 100.0 %" in text and "recovered, kg: 220 of 224, 98.2 %" in text
     assert office.run("case", "close").status == 0 and re.search("^C-1 .* 20", office.run("case", "list").out, re.M)
     assert "is closed" in office.run("case", "hold", "--case", "C-1").err
+
+
+def test_each_customer_has_a_letter_of_its_own_whatever_the_names_are(empty, monkeypatch):
+    """Names have hyphens: A-B of C is none of A's B-C."""
+    monkeypatch.setattr(caller, "login_number", lambda: caller.NOBODY)
+    ends = (("A", "B-C"), ("A-B", "C"))
+    for owner, party in ends:
+        empty.lay(f"owner-add {owner} {owner.replace('-', '')}KEY12345\nmaterial-add {owner} SALT kg")
+        assert empty.run("party", "add", owner, party, "--name", f"{party} Ltd", "--role", "customer").status == 0
+        assert empty.run("receive", owner, "K1", "SALT", f"S-{owner}", "TOTE1", 90, 261127, "--yes").out == "accepted\n"
+        assert empty.run("for", owner, "release", f"S-{owner}", "--by", "mail").status == 0
+        ship(empty, owner, "K2", f"S-{owner}", 50, party)
+    assert empty.run("case", "open", "A", "S-A", "--lot", "A-B", "S-A-B", *REASON).status == 0
+    target = empty.folder / "case"
+    assert empty.run("case", "paper", target, "--no-pdf").status == 0
+    for owner, party in ends:
+        text = (target / "letters" / owner / party / "letter.html").read_text()
+        assert f"{party} Ltd" in text and f"DOC-{owner}-K2" in text, (owner, party)
 
 
 def test_open_batches_are_stopped_and_what_can_t_be_is_named(office):
@@ -203,7 +226,7 @@ def test_a_drill_is_a_case_that_says_so_and_stops_nothing(office):
     assert done.status == 0 and "is a drill: nothing is held" in done.out and office.content() == before
     target = office.folder / "case"
     assert office.run("case", "paper", target, "--no-pdf").status == 0
-    assert "This is a drill" in (target / "letters" / "ACME-ACMENORD" / "letter.html").read_text()
+    assert "This is a drill" in (target / "letters" / "ACME" / "ACMENORD" / "letter.html").read_text()
 
 
 def test_which_case_is_meant_is_asked_where_several_are_open(office):
@@ -252,9 +275,9 @@ def try_letters(program, folder, seed):
     assert office.plant.run("case", "open", *words, *REASON).status == 0
     target = folder / "case"
     assert office.plant.run("case", "paper", target, "--no-pdf").status == 0
-    letters = list((target / "letters").iterdir()) if (target / "letters").exists() else []
-    for letter in letters:
-        owner = letter.name.partition("-")[0]
+    letters = letters_in(target)
+    for owner, party in letters:
+        letter = target / "letters" / owner / party
         others = [other for other in [HOUSE, *office.owners] if other != owner]
         names = {*others, *(lot for other in others for lot in office.lots[other]), *(word for other in others for word in office.noted.get(other, ()))}
         texts = "".join(path.read_text() for path in letter.iterdir())

@@ -327,7 +327,7 @@ def letter(report: CaseReport, customer: Customer, plant: PlantFacts) -> Documen
     if not any(item.returned_before for item in customer.items):
         sheet = sheet.without("returned")
     title = f"Recall {case.number}"
-    folder = f"letters/{customer.owner}-{customer.party}"
+    folder = f"letters/{customer.owner}/{customer.party}"  # a name may have hyphens, and no slash
     return Document(
         "letter", False, title, [sheet], {"facts": facts, "is_drill": case.is_drill}, folder, is_across=False
     )
