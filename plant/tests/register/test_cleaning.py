@@ -16,6 +16,21 @@ require BOLT PASTES 1 produced BOLT PASTE 10
 > BOLT POST /orders {"order":"P-1","recipe":"PASTES","batches":9}
 """
 
+OF_CORK = """
+owner-add CORK CORKKEY1
+material-add CORK LACQUER kg
+material-add CORK PAINT kg
+recipe-add CORK PAINTS 1
+require CORK PAINTS 1 consumed CORK LACQUER 10
+require CORK PAINTS 1 produced CORK PAINT 10
+> CORK POST /orders {"order":"Q-1","recipe":"PAINTS","batches":1}
+open CORK Q-1 KETTLE
+do CORK Q-1 1 start
+do CORK Q-1 1 done
+close CORK Q-1 1
+"""
+ACME_AGAIN = '> ACME POST /orders {"order":"O-2","recipe":"BRINE-10","batches":1}'
+
 
 def batch_of_bolt(number: int, lot: str) -> str:
     """A batch of BOLT's that is open, and makes a lot."""
@@ -141,6 +156,40 @@ def test_the_order_on_a_unit_goes_over_two_carry_overs(soiled):
     rule(soiled, 'owners = ["KETTLE"]')
     soiled.lay('close BOLT P-1 1\n> ACME POST /orders {"order":"O-2","recipe":"BRINE-10","batches":1}')
     assert "it held BOLT, BOLT P-1/1 last" in soiled.run("open", "ACME", "O-2", "KETTLE").err
+
+
+def test_what_a_unit_held_is_that_of_an_owner_that_left_too(soiled):
+    """The newest file has nothing of its recipes."""
+    ran(soiled, "clean", "KETTLE", "--how", "hot")
+    soiled.lay(OF_CORK)
+    ran(soiled, "describe", "material", "CORK", "LACQUER", "--allergen", "MILK")
+    ran(soiled, "carry-over", soiled.folder / "next.db", "--day", 104, "--without", "CORK")
+    for text, why in (('materials = ["KETTLE"]', "of other products: it held CORK PAINT"), ('allergens = ["KETTLE"]', "allergens: it held MILK")):
+        rule(soiled, text)
+        done = soiled.run(*OPENED)
+        assert done.status == 1 and f"{why}, CORK Q-1/1 (office-1.db) last" in done.err, done
+
+
+def test_an_allergen_that_a_batch_used_besides_its_recipe_counts(soiled):
+    soiled.lay("material-add HOUSE AROMA kg\nreceive HOUSE K9 AROMA A-1 CAN 50 103\nrelease A-1")
+    ran(soiled, "describe", "material", "HOUSE", "AROMA", "--allergen", "SOY")
+    ran(soiled, "clean", "KETTLE", "--how", "hot")
+    soiled.lay("open BOLT P-1 KETTLE\ndo BOLT P-1 1 start")
+    ran(soiled, "use", "BOLT", "P-1", 1, "HOUSE", "A-1", "CAN", 1, 103, "--yes")
+    soiled.lay(f"do BOLT P-1 1 done\nclose BOLT P-1 1\n{ACME_AGAIN}")
+    rule(soiled, 'allergens = ["KETTLE"]')
+    assert "allergens: it held SOY, BOLT P-1/1 last" in soiled.run("open", "ACME", "O-2", "KETTLE").err
+    ran(soiled, "carry-over", "--day", 104)
+    assert "allergens: it held SOY, BOLT P-1/1 (office-1.db) last" in soiled.run("open", "ACME", "O-2", "KETTLE").err
+
+
+def test_a_batch_of_an_earlier_file_is_decided_of(soiled):
+    soiled.lay("open BOLT P-1 KETTLE" + batch_of_bolt(1, "X-1"))
+    ran(soiled, "clean", "KETTLE", "--how", "hot")
+    ran(soiled, "carry-over", soiled.folder / "next.db", "--day", 104)
+    assert "not decided" in ran(soiled, "years", "recall", "ACME", "S-1").splitlines()[-1]
+    ran(soiled, "note", "no-residue", "BOLT", "P-1", 1, "--reason", "rinse water was clear")
+    assert "nothing: rinse water was clear ?" in ran(soiled, "years", "recall", "ACME", "S-1").splitlines()[-1]
 
 
 def test_a_cleaning_counts_until_it_is_withdrawn(soiled):

@@ -363,10 +363,14 @@ class NoResidue(Note):
     reason: str
 
     @property
+    def of(self) -> BatchId:
+        """The batch."""
+        return BatchId(self.owner, self.order, self.batch)
+
+    @property
     def sentence(self) -> str:
         """Which batch, and why."""
-        batch = BatchId(self.owner, self.order, self.batch)
-        return f"batch {batch} contains nothing of what its unit held before{because(self.reason)}"
+        return f"batch {self.of} contains nothing of what its unit held before{because(self.reason)}"
 
 
 @dataclass(frozen=True)

@@ -10,12 +10,12 @@ from typing import NamedTuple
 
 from ..core.journal import query
 from ..core.journal.log import Journal
-from .notes import Cleaned, NoResidue
+from .notes import Cleaned, Link, NoResidue
 from .register.file import Notes, Opened
-from .register.keeping import OfficeFile, files_of
+from .register.keeping import OfficeFile, Reader, files_of, went_on
 from .register.noted import Noted
 from .register.standing import Status, kept, statuses
-from .rows import Base, BatchId
+from .rows import Base, BatchId, LotId
 from .schema import IS_ACTUAL, STANDING, Role, State
 
 BATCHES = """
@@ -28,6 +28,7 @@ TAKEN = f"""
 SELECT DISTINCT m.lot_owner, m.material FROM moves AS m
 WHERE m.owner = ? AND m.ord = ? AND m.number = ? AND {IS_ACTUAL} AND {STANDING}
 """
+MATERIAL = "SELECT owner, material FROM lots WHERE owner = ? AND lot = ?"
 REQUIRED = "SELECT DISTINCT source, material FROM requirements WHERE owner = ? AND recipe = ?"
 PRODUCTS = f"{REQUIRED} AND role = {Role.PRODUCED:d}"
 Material = tuple[str, str]  # whose it is, and its name
@@ -73,12 +74,13 @@ Turn = Holding | Cleaning
 @dataclass
 class UnitOrder:
     """What held each unit and when it was cleaned, the oldest first; which batches a person found to contain nothing of
-    what their unit held before, and why; and over how many files of the office."""
+    what their unit held before, and why; which lots notes add to batches; and over how many files of the office."""
 
     files: int = 0
     opened: dict[Place, str] = field(default_factory=dict)  # when batches were opened, as far as the journal has it
     turns: dict[str, list[Turn]] = field(default_factory=lambda: defaultdict(list))
     decided: dict[Place, str] = field(default_factory=dict)
+    added: dict[Place, set[LotId]] = field(default_factory=lambda: defaultdict(set))
 
     def holdings(self, unit: str) -> list[Holding]:
         """The batches that held a unit."""
@@ -130,9 +132,14 @@ def read_if_cleaned(journal: Journal, newest: Base) -> UnitOrder | None:
 def read(journal: Journal, newest: Base) -> UnitOrder:
     """The order on all units of an office of whose newest file this is a copy. It is read before views are made over
     that: they hold the register's file."""
-    notes = kept(journal, newest)
     with files_of(journal, newest) as files:
-        return order_of(files, statuses(notes, Cleaned, NoResidue, fault=""))
+        return read_over(journal, files)
+
+
+def read_over(journal: Journal, files: Sequence[OfficeFile]) -> UnitOrder:
+    """The same over the files of the office, the oldest first, while they are open."""
+    notes = kept(journal, files[-1].base)
+    return order_of(files, statuses(notes, Cleaned, NoResidue, Link, fault=""))
 
 
 def read_with_times(journal: Journal, newest: Base) -> UnitOrder:
@@ -166,14 +173,16 @@ def opening_times(journal: Journal, order: UnitOrder) -> dict[Place, str]:
 
 def order_of(files: Sequence[OfficeFile], noted: Iterable[Status]) -> UnitOrder:
     """The order on all units, of the files of an office, the oldest first, and of notes that stand."""
-    order = UnitOrder(len(files))
+    order, reader = UnitOrder(len(files)), Reader(files, went_on(files))
     numbers = {office_file.after: number for number, office_file in enumerate(files, 1)}
     at_begin: defaultdict[tuple[int, str], list[Cleaning]] = defaultdict(list)
     behind: defaultdict[Place, list[Cleaning]] = defaultdict(list)
     for status in noted:
         number, note = numbers.get(status.noted.after, 0), status.note
         if isinstance(note, NoResidue):
-            order.decided[Place(number, BatchId(note.owner, note.order, note.batch))] = note.reason
+            order.decided[place_of(reader, status.noted, note.of)] = note.reason
+        elif isinstance(note, Link) and isinstance(note.container, BatchId):
+            order.added[place_of(reader, status.noted, note.container)].add(note.contained)
         elif isinstance(note, Cleaned):
             cleaning = Cleaning(note, status.noted)
             if note.behind:
@@ -191,16 +200,23 @@ def order_of(files: Sequence[OfficeFile], noted: Iterable[Status]) -> UnitOrder:
     return order
 
 
+def place_of(reader: Reader, noted: Noted, batch: BatchId) -> Place:
+    """The batch that a name means in a note: that of the note's own file, or else of the newest one before it."""
+    at = reader.place(noted, "batches", *batch)
+    return Place(0 if at is None else at + 1, batch)
+
+
 def last_on(base: Base, unit: str) -> tuple[BatchId, bool] | None:
     """The batch that a file's rows have last on a unit, and whether it is closed; `None` if they have none."""
     row = base.execute(LAST, (unit,)).fetchone()
     return (BatchId(*row[:3]), bool(row[3])) if row else None
 
 
-def materials_in(base: Base, holding: Holding) -> set[Material]:
-    """The materials that a batch took and made, and those of its recipe."""
-    required = base.execute(REQUIRED, (holding.batch.owner, holding.recipe)).fetchall()
-    return {*required, *base.execute(TAKEN, holding.batch).fetchall()}
+def materials_in(base: Base, holding: Holding, added: Iterable[LotId]) -> set[Material]:
+    """The materials that a batch of a file took and made, those of lots that were added to it, and those of its
+    recipe."""
+    taken = {*base.execute(TAKEN, holding.batch), *materials_of(base, holding.batch.owner, holding.recipe)}
+    return taken.union(*(base.execute(MATERIAL, lot).fetchall() for lot in added))
 
 
 def materials_of(base: Base, owner: str, recipe: str) -> set[Material]:

@@ -1,6 +1,6 @@
 """Cleanings of units, what is decided of residues, and what is looked at before a batch is opened on a unit that has to
 be clean. `toll` knows no cleaning: whoever may call it directly opens the batch all the same."""
-from collections.abc import Callable, Mapping
+from collections.abc import Callable, Mapping, Sequence
 from dataclasses import dataclass
 from typing import Any
 
@@ -12,9 +12,10 @@ from ..core.forms import listed
 from ..core.settings import ANY_UNIT, REFUSE, Clean
 from ..model import unit_order
 from ..model.notes import Cleaned, NoResidue
+from ..model.register.keeping import OfficeFile, files_of
 from ..model.register.standing import Register, register_of
 from ..model.rows import Base, BatchId, row_of
-from ..model.unit_order import Holding, Material
+from ..model.unit_order import Holding, Material, UnitOrder
 from . import making
 from .noting import Recorded, record
 
@@ -60,9 +61,11 @@ class Next:
 
 @dataclass(frozen=True)
 class Soiling:
-    """What is known of the next batch and of those that held its unit since it was cleaned."""
+    """What is known of the next batch and of those that held its unit since it was cleaned. What each of them made and
+    took is in its own file: the newest may have another recipe and another batch of these names, or none."""
 
-    base: Base
+    files: Sequence[OfficeFile]
+    order: UnitOrder
     register: Register
     next: Next
     since: list[Holding]
@@ -73,22 +76,36 @@ class Soiling:
 
     def by_materials(self) -> list[str]:
         """The products that were made on it, and aren't the next batch's."""
-        before = {product for held in self.since for product in self.products(held.batch.owner, held.recipe)}
-        return sorted(" ".join(product) for product in before - self.products(self.next.owner, self.next.recipe))
+        before = {
+            product
+            for held in self.since
+            for product in unit_order.products_of(self.base_of(held), held.batch.owner, held.recipe)
+        }
+        own = unit_order.products_of(self.newest, self.next.owner, self.next.recipe)
+        return sorted(" ".join(product) for product in before - own)
 
     def by_allergens(self) -> list[str]:
         """The allergens that it held, and that the next batch hasn't."""
-        before = {material for held in self.since for material in unit_order.materials_in(self.base, held)}
-        own = unit_order.materials_of(self.base, self.next.owner, self.next.recipe)
+        before = {
+            material
+            for held in self.since
+            for material in unit_order.materials_in(self.base_of(held), held, self.order.added.get(held.place, ()))
+        }
+        own = unit_order.materials_of(self.newest, self.next.owner, self.next.recipe)
         return sorted(self.allergens(before) - self.allergens(own))
 
     def by_anything(self) -> list[str]:
         """All batches that had it."""
         return list(dict.fromkeys(str(holding.batch) for holding in self.since))
 
-    def products(self, owner: str, recipe: str) -> set[Material]:
-        """What a recipe makes."""
-        return unit_order.products_of(self.base, owner, recipe)
+    @property
+    def newest(self) -> Base:
+        """The tables of the newest file, which has the next batch's order."""
+        return self.files[-1].base
+
+    def base_of(self, holding: Holding) -> Base:
+        """The tables of the file in which a batch held the unit."""
+        return self.files[holding.place.file - 1].base
 
     def allergens(self, materials: set[Material]) -> set[str]:
         """The allergens of materials."""
@@ -132,11 +149,14 @@ def why_unclean(context: Context, values: Mapping[str, str], rules: list[str]) -
         recipe, last = base.execute(RECIPE, (owner, order)).fetchone(), unit_order.last_on(base, unit)
         if recipe is None or last and not last[1]:
             return ""
-        since = unit_order.read(context.journal(), base).since_cleaning(unit)
-        soiling = Soiling(base, register_of(context, base), Next(owner, str(recipe[0])), since)
-        for rule in rules:
-            compare, between = RULES[rule]
-            if soiled := compare(soiling):
-                by = listed([*soiled[:MOST_NAMED], *(["others"] if soiled[MOST_NAMED:] else [])])
-                return f"{unit} has to be clean between {between}: it held {by}, {since[-1]} last, and wasn't cleaned"
+        with files_of(context.journal(), base) as files:
+            units = unit_order.read_over(context.journal(), files)
+            since = units.since_cleaning(unit)
+            soiling = Soiling(files, units, register_of(context, base), Next(owner, str(recipe[0])), since)
+            for rule in rules:
+                compare, between = RULES[rule]
+                if soiled := compare(soiling):
+                    by = listed([*soiled[:MOST_NAMED], *(["others"] if soiled[MOST_NAMED:] else [])])
+                    last_held = f"it held {by}, {since[-1]} last, and wasn't cleaned"
+                    return f"{unit} has to be clean between {between}: {last_held}"
     return ""

@@ -120,7 +120,7 @@ def named_by(note: Note) -> Iterator[tuple[str, Names]]:
             yield from named_end(note.container)
             yield from named_end(note.contained)
         case NoResidue():
-            yield from named_end(BatchId(note.owner, note.order, note.batch))
+            yield from named_end(note.of)
         case Cleaned():
             yield from named_end(note.behind) if note.behind else ()
         case Corrected() | CorrectionAsked():
