@@ -192,6 +192,23 @@ def test_a_batch_of_an_earlier_file_is_decided_of(soiled):
     assert "nothing: rinse water was clear ?" in ran(soiled, "years", "recall", "ACME", "S-1").splitlines()[-1]
 
 
+def test_a_case_names_what_may_contain_some_and_leaves_it_to_a_person(soiled):
+    soiled.lay("open BOLT P-1 KETTLE" + batch_of_bolt(1, "X-1"))
+    ran(soiled, "clean", "KETTLE", "--how", "hot")
+    ran(soiled, "case", "open", "ACME", "S-1", "--reason", "metal")
+    line = "KETTLE  BOLT P-1/1  X-1  behind ACME O-1/1  not decided ?"
+    text = ran(soiled, "case", "status")
+    assert "batches that may contain some: 1, of which 1 are not decided\n" in text and text.endswith(f"\n{line}\n"), text
+    done = soiled.run("case", "hold")
+    assert "X-1" not in done.out and "`hilpoven case status` has the batches, too, that may contain some" in done.err, done
+    for folder, decided in (("before", "not decided"), ("after", "nothing: it was rinsed")):
+        ran(soiled, "case", "paper", soiled.folder / folder, "--no-pdf")
+        assert decided in (soiled.folder / folder / "plant" / "may_contain.csv").read_text()
+        assert decided in (soiled.folder / folder / "plant" / "case.html").read_text()
+        ran(soiled, "note", "no-residue", "BOLT", "P-1", 1, "--reason", "it was rinsed")
+    assert "batches that may contain some: 1, of which 0 are not decided\n" in ran(soiled, "case", "status")
+
+
 def test_a_cleaning_counts_until_it_is_withdrawn(soiled):
     rule(soiled, 'owners = ["KETTLE"]')
     name = ran(soiled, "clean", "KETTLE", "--how", "hot").split()[1]

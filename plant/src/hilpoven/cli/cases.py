@@ -8,11 +8,14 @@ import click
 from ..core import scanned
 from ..core.context import Context
 from ..core.failure import REFUSED, WRONG_USE, Failure, printable
+from ..model import reach, residues
 from ..model.notes import CaseReply
 from ..model.register import cases as register_cases
 from ..model.register.cases import Case
 from ..model.register.drills import as_moment
+from ..model.register.file import Notes
 from ..model.rows import BatchId
+from ..model.unit_order import has_cleanings
 from ..record import cases, making
 from ..record.cases import Concerned, Origin
 from ..report.papers import case as papers, copies
@@ -30,10 +33,12 @@ def read(context: Context, number: str | None, is_open: bool) -> Case:
 
 
 @contextmanager
-def reported(context: Context, case: Case) -> Iterator[CaseReport]:
-    """A case with all that it comes to now, which the journal notes."""
+def reported(context: Context, case: Case, is_whole: bool = False) -> Iterator[CaseReport]:
+    """A case with all that it comes to now, which the journal notes; whether also with what may contain residues of it,
+    which may take a while."""
     office, journal = context.office_to_export("case", case.number), context.journal()
-    with copies.opened(office, journal, case.names) as source:
+    starts = reach.unless_cleaned(journal, case.names) if is_whole else case.names
+    with copies.opened(office, journal, starts) as source:
         yield papers.read_case(source, case, journal)
 
 
@@ -88,6 +93,8 @@ def hold(context: Context, number: str | None) -> None:
     for line in stopped.missed:
         click.echo(printable(f"  {line}"))
     tell_all(stopped.remarks)
+    if has_cleanings(Notes(context.journal())):
+        tell("`hilpoven case status` has the batches, too, that may contain some: they held a unit next.")
     if stopped.missed:
         raise Failure("not all of it could be held", REFUSED, "what is named above stays to be done by hand")
 
@@ -142,8 +149,8 @@ def reply(
 def status(context: Context, number: str | None, form: str | None) -> None:
     """`hilpoven case status`."""
     case = read(context, number, is_open=False)
-    with reported(context, case) as report:
-        facts, sheet = report.facts, papers.status(report)
+    with reported(context, case, is_whole=True) as report:
+        facts, sheet, unclean = report.facts, papers.status(report), residues.lines_of(report.may_contain)
     names = [column.title for column in sheet.columns]
     if form:
         give_table([column.name for column in sheet.columns], sheet.rows, form)
@@ -153,6 +160,8 @@ def status(context: Context, number: str | None, form: str | None) -> None:
     if sheet.rows:
         click.echo()
         print_table(names, sheet.rows)
+    for line in ["", *unclean] if unclean else ():
+        click.echo(printable(line))
 
 
 def paper(context: Context, number: str | None, folder: str | None, tar: bool, no_pdf: bool) -> None:
@@ -161,7 +170,8 @@ def paper(context: Context, number: str | None, folder: str | None, tar: bool, n
     case, plant = read(context, number, is_open=False), context.settings.plant
     name = f"case-{case.number}"
     make = partial(papers.documents, case=case, journal=context.journal(), plant=plant)
-    give(context, name, make, folder, tar, no_pdf, case.names)
+    starts = reach.unless_cleaned(context.journal(), case.names)
+    give(context, name, make, folder, tar, no_pdf, starts)
 
 
 def close(context: Context, number: str | None, reason: str | None) -> None:

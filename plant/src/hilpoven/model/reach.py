@@ -85,6 +85,12 @@ def names_of(journal: Journal, files: Sequence[chain.Part], starts: Iterable[End
 
 
 def starts_of(journal: Journal, owner: str, lot: str) -> list[End] | None:
-    """With what the recall of a lot begins, which may have its file behind its name; `None` if it may come to anything,
-    since batches that held a unit behind one of its batches may contain some."""
-    return None if has_cleanings(Notes(journal)) else [LotId(owner, lot.partition(" ")[0])]
+    """With what the recall of a lot begins, which may have its file behind its name; `None` if it may come to
+    anything."""
+    return unless_cleaned(journal, [LotId(owner, lot.partition(" ")[0])])
+
+
+def unless_cleaned(journal: Journal, starts: list[End]) -> list[End] | None:
+    """With what a recall begins; `None` if it may come to anything, since batches that held a unit behind one of its
+    batches may contain some."""
+    return None if has_cleanings(Notes(journal)) else starts

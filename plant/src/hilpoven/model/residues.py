@@ -63,14 +63,16 @@ def names_in_newest(base: Base, owners: Iterable[str], number: int) -> dict[Plac
     return {Place(number, batch): batch for batch in batches}
 
 
-def may_contain(genealogy: Genealogy, trace: Trace, order: UnitOrder, is_whole: bool) -> list[MayContain]:
-    """The batches that may contain some of what a trace found, by unit and in their order. The genealogy is that of the
-    newest file, or that of all files."""
+def may_contain(
+    genealogy: Genealogy, trace: Trace, order: UnitOrder, is_whole: bool, starts: Iterable[BatchId] = ()
+) -> list[MayContain]:
+    """The batches that may contain some of what a trace found, or of what batches made with which a recall starts, by
+    unit and in their order. The genealogy is that of the newest file, or that of all files."""
     if is_whole:
         names = names_over_all(genealogy.base, genealogy.everybody)
     else:
         names = names_in_newest(genealogy.base, genealogy.everybody, order.files)
-    touched = touched_by(genealogy, trace)
+    touched = touched_by(genealogy, trace).union(starts)
     places = {place for place, batch in names.items() if batch in touched}
     return [
         MayContain(

@@ -13,6 +13,7 @@ from ...model.quality import owner_in_full
 from ...model.register.cases import Case, starts_over_all
 from ...model.register.drills import as_clock, as_moment
 from ...model.register.noted import Noted
+from ...model.residues import UNDECIDED, MayContain
 from ...model.rows import BatchId, LotId, batches_of
 from ..columns import columns
 from ..sheets import Sheet, percent, table_of
@@ -21,7 +22,7 @@ from .copies import Source
 from .drill import FOUND
 from .printing import Document
 from .recall import HELD, LOTS, READ, SHIPMENTS, Report, View, read_lots, read_report
-from .recall_paper import RANK, SUBLOTS, running, totals
+from .recall_paper import RANK, SUBLOTS, may_contain, may_contain_in, running, totals
 from .recipients import WITHOUT_RECIPIENT, received_of, returns_of
 
 NOTHING = Trace({}, {})  # a recall of no lot
@@ -155,6 +156,11 @@ class CaseReport:
         concerned += batches_of(self.source.base, self.batches).values()
         return sorted({batch.id for batch in concerned if not batch.is_closed})
 
+    @cached_property
+    def may_contain(self) -> list[MayContain]:
+        """The batches that may contain residues of it, of which a person decides. All files have to be open."""
+        return may_contain_in(self.source, self.view.report, self.batches)
+
     @property
     def lots_on_hand(self) -> list[LotId]:
         """Its lots that are on hand."""
@@ -226,7 +232,16 @@ class CaseReport:
             "lots": f"{len(self.view.lots):,}, of which {len(on_hand):,} are on hand and {len(held):,} of these held",
             "batches that aren't closed": f"{len(self.open_batches):,}",
             **self.progress,
+            **self.unclean,
         }
+
+    @property
+    def unclean(self) -> dict[str, str]:
+        """How many batches may contain residues of it, if any does."""
+        rows = self.may_contain
+        undecided = sum(row.decision == UNDECIDED for row in rows)
+        text = f"{len(rows):,}, of which {undecided:,} are not decided"
+        return {"batches that may contain some": text} if rows else {}
 
 
 def share(part: int, whole: int) -> str:
@@ -287,7 +302,8 @@ def paper(report: CaseReport) -> Document:
     sheets = [running(view), sublots, totals(view), status(report), unknown, contacts(customers), replies(case), lots]
     if not view.is_noted:
         sheets = [sheet.without("noted") for sheet in sheets]
-    sheets += [sheet for sheet in (report.returned, view.links, view.plant_links, view.corrections) if sheet.rows]
+    beside = (report.returned, view.links, view.plant_links, may_contain(report.may_contain), view.corrections)
+    sheets += [sheet for sheet in beside if sheet.rows]
     open_batches = [str(batch) for batch in report.open_batches]
     values = {"facts": report.facts, "is_drill": case.is_drill, "open_batches": open_batches}
     values |= {"is_noted": view.is_noted, "counts": view.counts}

@@ -1,6 +1,7 @@
 """The papers of a recall: what to do first, where it lies, what left, who has it, where it went, and what of each lot
 came and left."""
 from collections import Counter, defaultdict
+from collections.abc import Iterable
 from dataclasses import replace
 from typing import Any
 
@@ -8,6 +9,7 @@ from .agreement import COUNTED
 from ...model import residues
 from ...model.below import MARK
 from ...model.notes import Link, PlantLink
+from ...model.residues import MayContain
 from ...model.rows import BatchId, LotId
 from ...model.schema import FOLLOWING, Disposition
 from ..columns import columns
@@ -55,18 +57,22 @@ def of_plant(source: Source, report: Report) -> Document:
     paper = document(View(report))
     rows = may_contain_in(source, report)
     if rows:
-        cells = [
-            (row.unit, row.batch.owner, row.batch.name, row.lots_named, str(row.behind), row.decision) for row in rows
-        ]
-        paper.sheets.append(Sheet("may_contain", MAY_CONTAIN, cells))
+        paper.sheets.append(may_contain(rows))
         paper.texts["recall.txt"] += "".join(f"{line}\n" for line in residues.lines_of(rows))
     return paper
 
 
-def may_contain_in(source: Source, report: Report) -> list[residues.MayContain]:
-    """The batches that may contain residues of what a recall found."""
-    is_whole = not source.is_one
-    return residues.may_contain(report.genealogy, report.trace, source.order, is_whole) if source.order else []
+def may_contain_in(source: Source, report: Report, starts: Iterable[BatchId] = ()) -> list[MayContain]:
+    """The batches that may contain residues of what a recall found, or of the batches with which it starts."""
+    if not source.order:
+        return []
+    return residues.may_contain(report.genealogy, report.trace, source.order, not source.is_one, starts)
+
+
+def may_contain(rows: Iterable[MayContain]) -> Sheet:
+    """The table of them."""
+    cells = [(row.unit, row.batch.owner, row.batch.name, row.lots_named, str(row.behind), row.decision) for row in rows]
+    return Sheet("may_contain", MAY_CONTAIN, cells)
 
 
 def noticed_documents(source: Source, own: Report, whole: Report) -> list[Document]:
