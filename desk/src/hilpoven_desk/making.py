@@ -126,7 +126,7 @@ def step_of_case(context: Context, word: str, **names: Any) -> Made:
     from hilpoven.cli import cases
 
     if word == "status":
-        with cases.reported(context, cases.read(context, names["number"], is_open=False)) as report:
+        with cases.reported(context, cases.read(context, names["number"], is_open=False), is_whole=True) as report:
             rows = [row_of_case(row) for row in report.rows]
             answer = {"facts": report.facts, "rows": rows, "is_open": not report.case.closed, "fault": ""}
         return Made("case", JSON, json.dumps(answer).encode())

@@ -212,15 +212,27 @@ def site_day(plant):
     return next(note["day"] for line in plant.lines() for note in line.get("notes", []) if note["kind"] == "case-open")
 
 
+def test_a_case_ends_with_a_reason_where_something_is_on_hand_and_not_held(office):
+    assert office.run("case", "open", "ACME", "B-1", *REASON).status == 0
+    assert office.run("case", "reply", "ACME", "ACMENORD", "--destroyed", 50).status == 0
+    done = office.run("case", "close")
+    assert done.status == 1 and "lots: 1, of which 1 are on hand and 0 of these held" in done.err and "accounted for, kg: 50 of 50, 100.0 %" in done.err
+    assert office.run("case", "hold").status == office.run("case", "close").status == 0
+    assert office.run("case", "open", "ACME", "B-3", *REASON).status == 0
+    assert office.run("case", "close", "--reason", "it was another lot").status == 0
+
+
 def test_a_shipment_that_nobody_noted_isn_t_reached(office):
     assert office.run("ship", "ACME", "K300", "B-2", "TOTE1", 7, 261128).out == "accepted\n"
     assert office.run("case", "open", "ACME", "B-2", *REASON).status == 0
     assert ("ACME", "(not noted)", "7") in {(row["owner"], row["noted_party"], row["open"]) for row in status(office)}
-    assert "0 of 2" in office.run("case", "status").out
+    done = office.run("case", "status")
+    assert "0 of 2" in done.out and "`hilpoven case paper` names the shipments whose customer nobody noted" in done.err
 
 
 def test_a_drill_is_a_case_that_says_so_and_stops_nothing(office):
-    assert office.run("case", "open", "W-1", "--drill", "--reason", "practice").out.startswith("drill C-1 began on ")
+    done = office.run("case", "open", "W-1", "--drill", "--reason", "practice")
+    assert done.out.startswith("drill C-1 began on ") and "`hilpoven case hold` shows what it would hold" in done.err
     before = office.content()
     done = office.run("case", "hold")
     assert done.status == 0 and "is a drill: nothing is held" in done.out and office.content() == before

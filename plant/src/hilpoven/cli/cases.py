@@ -63,12 +63,13 @@ def open_command(
     origin = Origin([*first, *lots], supplier_lots, documents, parties, unit, since, until)
     case, starts = cases.open_case(context, origin, reason, is_drill)
     kind = "drill" if case.is_drill else "case"
+    holds = "shows what it would hold" if case.is_drill else "holds what is on hand, and stops open batches"
     click.echo(f"{kind} {case.number} began on {as_moment(case.opened)}")
     for name, _, why in starts:
         click.echo(printable(f"  {'batch' if isinstance(name, BatchId) else 'lot'} {name}: {why}"))
     how = "--tar | tar -x" if context.person.is_member else "FOLDER"
     tell(
-        "`hilpoven case hold` holds what is on hand, and stops open batches.\n"
+        f"`hilpoven case hold` {holds}.\n"
         f"`hilpoven case paper {how}` makes the paper, a letter for each customer, and the contacts as CSV.\n"
         "`hilpoven case reply OWNER PARTY LOT ..` notes what a customer answers; `hilpoven case status` shows how far "
         "it is."
@@ -151,6 +152,7 @@ def status(context: Context, number: str | None, form: str | None) -> None:
     case = read(context, number, is_open=False)
     with reported(context, case, is_whole=True) as report:
         facts, sheet, unclean = report.facts, papers.status(report), residues.lines_of(report.may_contain)
+        has_unknown = report.has_unknown
     names = [column.title for column in sheet.columns]
     if form:
         give_table([column.name for column in sheet.columns], sheet.rows, form)
@@ -162,6 +164,8 @@ def status(context: Context, number: str | None, form: str | None) -> None:
         print_table(names, sheet.rows)
     for line in ["", *unclean] if unclean else ():
         click.echo(printable(line))
+    if has_unknown:
+        tell("`hilpoven case paper` names the shipments whose customer nobody noted, with the command that notes it.")
 
 
 def paper(context: Context, number: str | None, folder: str | None, tar: bool, no_pdf: bool) -> None:
@@ -178,9 +182,9 @@ def close(context: Context, number: str | None, reason: str | None) -> None:
     """`hilpoven case close`."""
     case = read(context, number, is_open=True)
     with reported(context, case) as report:
-        is_done, progress = report.is_done, report.progress
+        is_done, facts = report.is_done, {"lots": report.facts["lots"], **report.progress}
     if not is_done and not (reason or "").strip():
-        left = "; ".join(f"{name}: {text}" for name, text in progress.items())
+        left = "; ".join(f"{name}: {text}" for name, text in facts.items())
         raise Failure(f"not all of it is accounted for: {left}", REFUSED, "--reason TEXT says why it ends all the same")
     click.echo(f"noted {cases.close(context, case.number, reason or '')}")
     tell("`hilpoven case paper` makes its paper, as it is now.")

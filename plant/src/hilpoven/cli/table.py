@@ -536,7 +536,7 @@ case paper [FOLDER] : cases
   > case paper case
 
 case close : cases
-  --reason TEXT  Why it ends, if not all is accounted for.
+  --reason TEXT  Why it ends, if not all is held and accounted for.
   +case
   Ends a case, and stops its clock.
   > case close

@@ -158,7 +158,7 @@ class CaseReport:
 
     @cached_property
     def may_contain(self) -> list[MayContain]:
-        """The batches that may contain residues of it, of which a person decides. All files have to be open."""
+        """The batches that may contain residues of it, of which a person decides."""
         return may_contain_in(self.source, self.view.report, self.batches)
 
     @property
@@ -199,8 +199,18 @@ class CaseReport:
 
     @property
     def is_done(self) -> bool:
-        """Whether it is known of all what became of it."""
-        return not any(row.item.open for row in self.rows)
+        """Whether it is known of all what became of it, and all that is on hand is held, unless it is a drill."""
+        return not any(row.item.open for row in self.rows) and (self.case.is_drill or not self.not_held)
+
+    @property
+    def not_held(self) -> int:
+        """How many lots that are on hand aren't held."""
+        return sum(lot.word != HELD for lot in self.view.lots if lot.on_hand)
+
+    @property
+    def has_unknown(self) -> bool:
+        """Whether nobody noted who got some of it."""
+        return any(not customer.party for customer in self.customers)
 
     @property
     def progress(self) -> dict[str, str]:
@@ -219,8 +229,7 @@ class CaseReport:
     @property
     def facts(self) -> dict[str, str]:
         """What its paper and its status begin with."""
-        case, on_hand = self.case, [lot for lot in self.view.lots if lot.on_hand]
-        held = [lot for lot in on_hand if lot.word == HELD]
+        case, on_hand = self.case, self.lots_on_hand
         closed = {"closed": f"{as_moment(case.closed)} by {printable(case.closed.who)}"} if case.closed else {}
         return {
             "case": f"{case.number}{', a drill' if case.is_drill else ''}",
@@ -229,7 +238,8 @@ class CaseReport:
             "opened": f"{as_moment(case.opened)} by {printable(case.opened.who)}",
             **closed,
             "clock": as_clock(case.took),
-            "lots": f"{len(self.view.lots):,}, of which {len(on_hand):,} are on hand and {len(held):,} of these held",
+            "lots": f"{len(self.view.lots):,}, of which {len(on_hand):,} are on hand "
+            f"and {len(on_hand) - self.not_held:,} of these held",
             "batches that aren't closed": f"{len(self.open_batches):,}",
             **self.progress,
             **self.unclean,

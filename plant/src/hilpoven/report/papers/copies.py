@@ -77,6 +77,7 @@ class Source:
     files: tuple[Part, ...]
     register: Register = field(default_factory=Register)
     order: UnitOrder | None = None  # on the units, over all files; `None` if no cleaning is noted
+    is_whole: bool = True  # whether the tables have all that the files have, and not what a recall may come to alone
 
     @property
     def is_one(self) -> bool:
@@ -105,13 +106,14 @@ def opened(office: Office, journal: Journal, starts: Iterable[LotId | BatchId] |
         try:
             newest = stack.enter_context(keyless(office, room))
             files = parts_of(office.file, newest.base, newest.path, newest.digest)
-            base = newest.base
+            base, names = newest.base, None
             if len(files) > 1:
-                base = stack.enter_context(merged(files, names=reach.names_of(journal, files, starts)))
+                names = reach.names_of(journal, files, starts)
+                base = stack.enter_context(merged(files, names=names))
             order = read_if_cleaned(journal, newest.base)
             register = standing.read(journal, newest.base, None if len(files) == 1 else base)
             register.plants_test = office.plants_test
-            yield Source(newest, views.over(base, register), tuple(files), register, order)
+            yield Source(newest, views.over(base, register), tuple(files), register, order, names is None)
         except sqlite3.Error as error:
             raise Failure(f"a copy of {office.file} can't be read: {error}") from error
 

@@ -63,8 +63,9 @@ def of_plant(source: Source, report: Report) -> Document:
 
 
 def may_contain_in(source: Source, report: Report, starts: Iterable[BatchId] = ()) -> list[MayContain]:
-    """The batches that may contain residues of what a recall found, or of the batches with which it starts."""
-    if not source.order:
+    """The batches that may contain residues of what a recall found, or of the batches with which it starts; none if
+    their rows weren't read."""
+    if not source.order or not source.is_whole:
         return []
     return residues.may_contain(report.genealogy, report.trace, source.order, not source.is_one, starts)
 
