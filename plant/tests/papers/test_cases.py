@@ -139,11 +139,15 @@ def test_a_case_from_a_supplier_s_lot_over_three_files_to_its_last_answer(office
     for owner in OWNERS:
         assert office.run("case", "reply", owner, f"{owner}NORD", "B-1", "--back", 20, "--destroyed", 30, "--reason", "Jane").status == 0
         assert "recovered, kg: 100 of 224, 44.6 %" in office.run("case", "status").out or owner == "ACME"
+    assert office.run("case", "reply", "ACME", "ACMENORD", "B-1", "--back", 21, "--destroyed", 29).status == 0  # which counts
     done = office.run("case", "close")
     assert done.status == 1 and "not all of it is accounted for" in done.err
     assert "62 kg of B-2, and 63 are more" in office.run("case", "reply", "BOLT", "BOLTNORD", "B-2", "--destroyed", 60, "--gone", 3).err
     for owner in OWNERS:
         assert office.run("case", "reply", owner, f"{owner}NORD", "B-2", "--destroyed", 60, "--gone", 2).status == 0
+    assert office.run("case", "paper", office.folder / "answers", "--no-pdf").status == 0
+    answers = [(row["noted_party"], row["what"]) for row in rows((office.folder / "answers" / "plant" / "replies.csv").read_text())]
+    assert answers[:1] + answers[-1:] == [('="ACMENORD"', '="20 back, 30 destroyed"'), ('="BOLTNORD"', '="60 destroyed, 2 not to be found"')] and len(answers) == 5, answers
     text = office.run("case", "status").out
     assert "customers that answered: 2 of 2, 100.0 %" in text and "accounted for, kg: 224 of 224, 100.0 %" in text and "recovered, kg: 220 of 224, 98.2 %" in text
     assert office.run("case", "close").status == 0 and re.search("^C-1 .* 20", office.run("case", "list").out, re.M)

@@ -106,6 +106,7 @@ SELECT b.owner, b.ord, b.number, o.recipe, b.unit, b.state, b.closed
 FROM batches AS b JOIN orders AS o USING (owner, ord) WHERE
 """
 OF_BATCH = "{0}.owner = ? AND {0}.ord = ? AND {0}.number = ?"
+OF_KEY = "m.owner = ? AND m.mkey = ?"
 WANTED = "CREATE TEMP TABLE IF NOT EXISTS wanted (owner TEXT, lot TEXT, PRIMARY KEY (owner, lot)) WITHOUT ROWID"
 
 
@@ -205,6 +206,11 @@ def row_of(base: Base, sql: str, words: tuple[str, ...], kind: str, names: str) 
         advice = nearest(words[-1], known, PLURALS.get(kind, f"{kind}s"))
         raise Failure(f"there is no {kind} {' '.join(words)}", REFUSED, advice)
     return tuple(row)
+
+
+def require_unit(base: Base, unit: str) -> None:
+    """Fails if there is no such unit."""
+    row_of(base, "SELECT unit FROM units WHERE unit = ?", (unit,), "unit", "SELECT unit FROM units")
 
 
 # What keys begin with that a stock count makes, `hilpoven use`, and a workbook with opening stock.

@@ -20,14 +20,13 @@ from ..model.register import cases
 from ..model.register.cases import Case
 from ..model.register.meant import MEANT, RowReader, row_of
 from ..model.register.standing import register_of, statuses
-from ..model.rows import Base, BatchId, LotId, batches_of, lots_of, read_moves
+from ..model.rows import OF_KEY, Base, BatchId, LotId, batches_of, lots_of, read_moves
 from ..model.schema import FOLLOWING, State
 from ..model.years.earlier import lot_of
 from . import asking, judging, making
 from .drilling import only_lot, require_lot
 from .making import Desk
 
-OF_KEY = "m.owner = ? AND m.mkey = ?"
 ON_UNIT = "SELECT owner, ord, number FROM batches WHERE unit = ? ORDER BY rowid"
 DAYS = "SELECT min(day), max(day) FROM moves WHERE owner = ? AND ord = ? AND number = ?"
 HAS_UNIT = "SELECT 1 FROM units WHERE unit = ?"

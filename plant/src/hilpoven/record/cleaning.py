@@ -14,20 +14,13 @@ from ..model import unit_order
 from ..model.notes import Cleaned, NoResidue
 from ..model.register.keeping import OfficeFile, files_of
 from ..model.register.standing import Register, register_of
-from ..model.rows import Base, BatchId, row_of
+from ..model.rows import Base, BatchId, require_unit
 from ..model.unit_order import Holding, Material, UnitOrder
 from . import making
 from .noting import Recorded, record
 
-UNIT = "SELECT unit FROM units WHERE unit = ?"
-UNITS = "SELECT unit FROM units"
 RECIPE = "SELECT recipe FROM orders WHERE owner = ? AND ord = ?"
 MOST_NAMED = 4  # batches that are named where a unit isn't clean
-
-
-def require_unit(base: Base, unit: str) -> None:
-    """Fails if there is no such unit."""
-    row_of(base, UNIT, (unit,), "unit", UNITS)
 
 
 def clean(context: Context, unit: str, how: str, checked: str) -> Recorded:

@@ -19,14 +19,13 @@ from ..model.kinds import CORRECTING, Why
 from ..model.nearest import nearest
 from ..model.notes import GETS, Corrected, CorrectionAsked, Corrects, Link, MovementFacts, Note, require_party
 from ..model.register.standing import Status, statuses
-from ..model.rows import Lot, LotId, Move, batches_of, lots_of, read_moves, require_owner, sublots_of
+from ..model.rows import OF_KEY, Lot, LotId, Move, batches_of, lots_of, read_moves, require_owner, sublots_of
 from ..model.schema import INCOMING, Disposition, Kind
 from . import asking, making
 from .making import Desk
 from .sheets.counting import new_lot
 
 ACTUALS = (Kind.CONSUMED, Kind.PRODUCED)
-OF_KEY = "m.owner = ? AND m.mkey = ?"
 BY_MISTAKE = "recorded by mistake"
 
 

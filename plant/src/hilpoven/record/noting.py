@@ -40,7 +40,7 @@ from ..model.notes import (
 from ..model.register.standing import Status, closings_in, statuses
 from ..model.genealogy import suspects
 from ..model.register.tables import storable, subject_of
-from ..model.rows import BatchId, LotId, require_owner, row_of
+from ..model.rows import BatchId, LotId, require_owner, require_unit
 from . import describing, making
 from .making import Desk
 
@@ -139,8 +139,8 @@ def withdraw(context: Context, name: str, reason: str) -> Recorded:
 
 
 def require_no_correction(desk: Desk, status: Status) -> None:
-    """Fails if `correct` made a note: what was meant by whom, that a movement sets the stock right, or a link by which no
-    recall loses a line. What only was asked for may be withdrawn."""
+    """Fails if `correct` made a note: of what was meant, of what sets the stock right, or a link by which no recall
+    loses a line. What only was asked for may be withdrawn."""
     noted, note = status.noted, status.note
     if noted.is_own:
         is_made = noted.words[:1] == ("correct",) and not isinstance(note, CorrectionAsked)
@@ -336,7 +336,7 @@ def describe_material(context: Context, owner: str, material: str, **given: Any)
 def describe_unit(context: Context, unit: str, **given: str | None) -> Described:
     """Notes the full name of a unit."""
     with making.desk(context) as desk:
-        row_of(desk.base, "SELECT unit FROM units WHERE unit = ?", (unit,), "unit", "SELECT unit FROM units")
+        require_unit(desk.base, unit)
         facts, note = desk.register.units.get(unit) or UnitFacts(HOUSE, unit), UnitFacts(
             HOUSE, unit, **members_of(given)
         )

@@ -16,12 +16,12 @@ from .standing import reader_of, statuses
 @dataclass
 class Case:
     """A recall case: the notes with which it began and ended, the latter `None` while it is open, what it begins with,
-    and the answers, the last one of each customer about each lot."""
+    and the answers in their order, of which the last one of each customer about each lot counts."""
 
     note: CaseOpened
     opened: Noted
     starts: list[tuple[Noted, CaseStart]] = field(default_factory=list)
-    replies: dict[tuple[str, str, str], tuple[Noted, CaseReply]] = field(default_factory=dict)  # by owner, party, lot
+    answers: list[tuple[Noted, CaseReply]] = field(default_factory=list)
     closed: Noted | None = None
 
     @property
@@ -38,6 +38,11 @@ class Case:
     def names(self) -> list[LotId | BatchId]:
         """With what it begins, by the names of the file in which that was noted."""
         return [note.start for _, note in self.starts]
+
+    @property
+    def replies(self) -> dict[tuple[str, str, str], tuple[Noted, CaseReply]]:
+        """The answers that count, by owner, party and lot."""
+        return {(note.owner, note.party, note.lot): (noted, note) for noted, note in self.answers}
 
     @property
     def took(self) -> timedelta | None:
@@ -61,7 +66,7 @@ def cases_of(notes: Opened) -> dict[str, Case]:
             case CaseStart():
                 case.starts.append((noted, note))
             case CaseReply():
-                case.replies[note.owner, note.party, note.lot] = noted, note
+                case.answers.append((noted, note))
             case CaseClosed():
                 case.closed = noted
     return cases

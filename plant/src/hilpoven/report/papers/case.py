@@ -21,14 +21,12 @@ from .certificate import sender_of
 from .copies import Source
 from .drill import FOUND
 from .printing import Document
-from .recall import HELD, LOTS, READ, SHIPMENTS, Report, View, read_lots, read_report
-from .recall_paper import RANK, SUBLOTS, may_contain, may_contain_in, running, totals
-from .recipients import WITHOUT_RECIPIENT, received_of, returns_of
+from .recall import HELD, LOTS, SHIPMENTS, Report, View, read_lots, read_report
+from .recall_paper import may_contain, may_contain_in, running, sublots, totals
+from .recipients import Recipients, received_of, returns_of, without_recipient
 
 NOTHING = Trace({}, {})  # a recall of no lot
 UNKNOWN = "(not noted)"  # in the place of a customer of whom nobody noted that it got something
-ON_HAND = f"{LOTS} AND on_hand"
-OF_SUBLOTS = f"FROM sublots AS s JOIN temp.recalled AS r USING (owner, lot) WHERE s.amount AND {READ}"
 UNNOTED = f"SELECT m.owner, r.lot, r.material, r.measure, sum(m.amount) {SHIPMENTS} AND m.party = '' GROUP BY 1, 2"
 
 
@@ -167,30 +165,31 @@ class CaseReport:
         return [lot.id for lot in self.view.lots if lot.on_hand]
 
     @cached_property
+    def received(self) -> tuple[Recipients, Sheet]:
+        """What each customer got of each lot, less what came back, and the table of what came back."""
+        received = received_of(self.view)
+        return received, returns_of(self.view, received, self.case.note.day)
+
+    @cached_property
     def customers(self) -> list[Customer]:
         """Its customers, by owner and name; last, of each owner, one without a name for what nobody noted."""
         customers: dict[tuple[str, str], Customer] = {}
-        received = received_of(self.view)
-        self.returned = returns_of(self.view, received, self.case.note.day)
+        (received, _), replies = self.received, self.case.replies
         for (owner, party, lot), got in received.items():
             _, _, name, contact, phone, address, _, material = got.about
             customer = customers.setdefault((owner, party), Customer(owner, party, name, contact, phone, address))
             measure, document_names = got.behind
             since = min(got.returned, got.returned_since)
             amounts = got.shipments, got.amount, document_names, got.returned - since, since
-            customer.items.append(Item(lot, material, measure, *amounts, *self.reply_of(owner, party, lot)))
+            reply = replies.get((owner, party, lot.name)) or replies.get((owner, party, "")) or (None, None)
+            customer.items.append(Item(lot, material, measure, *amounts, *reply))
         for owner, name, material, measure, amount in self.source.base.execute(UNNOTED, {"reader": ""}):
             unknown = customers.setdefault((owner, ""), Customer(owner, ""))
             unknown.items.append(Item(LotId(owner, name), material, measure, 1, amount))
-        for noted, note in sorted(self.case.replies.values(), key=lambda each: each[0].time):
+        for noted, note in self.case.answers:
             if (note.owner, note.party) in customers:
                 customers[note.owner, note.party].answered = noted
         return [customers[key] for key in sorted(customers, key=lambda key: (key[0], key[1] == "", key[1]))]
-
-    def reply_of(self, owner: str, party: str, lot: LotId) -> tuple[Noted | None, CaseReply | None]:
-        """What a customer answered about a lot, or else without naming one."""
-        replies = self.case.replies
-        return replies.get((owner, party, lot.name)) or replies.get((owner, party, "")) or (None, None)
 
     @property
     def rows(self) -> list[Row]:
@@ -306,13 +305,13 @@ def paper(report: CaseReport) -> Document:
     """The plant's paper of a case."""
     case, view = report.case, report.view
     lots = view.select("found", FOUND, f"{LOTS} ORDER BY place", ["on_hand", "shipped"])
-    sublots = view.select("sublots", SUBLOTS, f"{OF_SUBLOTS} ORDER BY {RANK}, r.owner, r.lot, s.sublot", ["amount"])
     customers = report.customers
-    unknown = view.select("without_recipient", WITHOUT_RECIPIENT, f"{SHIPMENTS} AND m.party = '' ORDER BY m.place")
-    sheets = [running(view), sublots, totals(view), status(report), unknown, contacts(customers), replies(case), lots]
+    sheets = [running(view), sublots(view), totals(view), status(report), without_recipient(view), contacts(customers)]
+    sheets += [replies(case), lots]
     if not view.is_noted:
         sheets = [sheet.without("noted") for sheet in sheets]
-    beside = (report.returned, view.links, view.plant_links, may_contain(report.may_contain), view.corrections)
+    _, returned = report.received
+    beside = (returned, view.links, view.plant_links, may_contain(report.may_contain), view.corrections)
     sheets += [sheet for sheet in beside if sheet.rows]
     open_batches = [str(batch) for batch in report.open_batches]
     values = {"facts": report.facts, "is_drill": case.is_drill, "open_batches": open_batches}
@@ -332,7 +331,7 @@ def replies(case: Case) -> Sheet:
             reply_text(note),
             note.reason or None,
         )
-        for noted, note in sorted(case.replies.values(), key=lambda each: each[0].time)
+        for noted, note in case.answers
     ]
     return Sheet("replies", REPLIES, rows)
 

@@ -150,14 +150,13 @@ def document(view: View) -> Document:
     """The paper of one reader. An owner's tables have no column for the owner, and none a column for marks if there are
     none."""
     start, owner, is_own = view.report.start, view.owner, view.report.start.owner == view.owner
-    sublots = f"FROM sublots AS s JOIN temp.recalled AS r USING (owner, lot) WHERE s.amount AND {READ}"
     released = f"{LOTS} AND disposition = {Disposition.RELEASED:d} AND on_hand ORDER BY is_held, place"
     amounts = [kind.total for kind in COUNTED]
     sheets = [
         view.select("released", RELEASED, released),
         running(view),
         totals(view),
-        view.select("sublots", SUBLOTS, f"{sublots} ORDER BY {RANK}, r.owner, r.lot, s.sublot", ["amount"]),
+        sublots(view),
         view.select("shipments", SHIPPED, f"{SHIPMENTS} ORDER BY m.place", ["amount"]),
         batches(view),
         view.select("lots", BALANCES, f"{LOTS} ORDER BY place", [*amounts, "on_hand", "difference"]),
@@ -176,6 +175,12 @@ def document(view: View) -> Document:
     values |= {"is_noted": view.is_noted, "has_notes": view.has_notes, "notices": notice_lines(view.notices)}
     folder, texts = (f"owners/{owner}", {}) if owner else ("plant", {"recall.txt": view.report.text})
     return Document("recall", not owner, title, [*sheets, flows(view)], values, folder, texts)
+
+
+def sublots(view: View) -> Sheet:
+    """Where it lies, what is released first."""
+    behind = f"FROM sublots AS s JOIN temp.recalled AS r USING (owner, lot) WHERE s.amount AND {READ}"
+    return view.select("sublots", SUBLOTS, f"{behind} ORDER BY {RANK}, r.owner, r.lot, s.sublot", ["amount"])
 
 
 def totals(view: View) -> Sheet:

@@ -104,13 +104,17 @@ def sheets_of(view: View) -> list[Sheet]:
         [each.row for each in received.values()],
         ["shipments", "amount", "noted_returned", "noted_has"],
     )
-    unknown = f"{SHIPMENTS} AND m.party = '' ORDER BY m.place"
     sheets = [
-        view.select("without_recipient", WITHOUT_RECIPIENT, unknown),
+        without_recipient(view),
         recipients if returned.rows else recipients.without("noted_returned", "noted_has"),
         view.select("contacts", CONTACTS, f"{KNOWN} GROUP BY m.owner, m.party ORDER BY m.owner, m.party"),
     ]
     return [*sheets, returned] if returned.rows else sheets
+
+
+def without_recipient(view: View) -> Sheet:
+    """The shipments that nobody is known to have, with what is to be done about each."""
+    return view.select("without_recipient", WITHOUT_RECIPIENT, f"{SHIPMENTS} AND m.party = '' ORDER BY m.place")
 
 
 def received_of(view: View) -> Recipients:
