@@ -181,7 +181,8 @@ class CaseReport:
             measure, document_names = got.behind
             since = min(got.returned, got.returned_since)
             amounts = got.shipments, got.amount, document_names, got.returned - since, since
-            reply = replies.get((owner, party, lot.name)) or replies.get((owner, party, "")) or (None, None)
+            reply: tuple[Noted | None, CaseReply | None] = (None, None)
+            reply = replies.get((owner, party, lot.name)) or replies.get((owner, party, "")) or reply
             customer.items.append(Item(lot, material, measure, *amounts, *reply))
         for owner, name, material, measure, amount in self.source.base.execute(UNNOTED, {"reader": ""}):
             unknown = customers.setdefault((owner, ""), Customer(owner, ""))
