@@ -44,17 +44,17 @@ class Browser:
     """A browser of somebody, which has cookies, and fills in the forms of pages."""
 
     def __init__(self, client: FlaskClient, desk: Desk) -> None:
-        self.client, self.desk, self.status, self.page = client, desk, 0, ""
+        self.client, self.desk, self.status, self.page, self.at = client, desk, 0, "", ""
 
     def get(self, path: str, **fields: object) -> str:
         """The page of a path, behind redirections."""
         reply = self.client.get(path, base_url=ORIGIN, follow_redirects=True, **fields)
-        self.status, self.page = reply.status_code, reply.text
+        self.status, self.page, self.at = reply.status_code, reply.text, path
         return self.page
 
     def send(self, path: str, *, follow: bool = True, origin: str = ORIGIN, **fields: object) -> str:
         """Sends a form as a browser does; fields that aren't given are those that the page hides."""
-        headers = {"Origin": origin} if origin else {}
+        headers = {"Referer": f"{ORIGIN}{self.at}"} | ({"Origin": origin} if origin else {})
         reply = self.client.post(path, base_url=ORIGIN, data=fields, headers=headers, follow_redirects=follow)
         self.status, self.page = reply.status_code, reply.text
         return self.page

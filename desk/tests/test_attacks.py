@@ -1,8 +1,10 @@
 """What an attacker tries: forged forms, other hosts, stolen and fixed sessions, guessing, addresses without a role, hostile texts."""
+import html
+import re
 import time
 
 import pytest
-from conftest import ORIGIN, PERSONS
+from conftest import HIDDEN, ORIGIN, PERSONS
 from hilpoven.core import delays, sessions
 from hilpoven_desk import web
 from hilpoven_desk.accounts import DeskPerson, SampleAccounts, Unavailable
@@ -245,6 +247,52 @@ def test_a_form_behind_the_end_of_a_session_is_kept_and_not_sent(browse, desk, o
     anna.fill("/receive", material="SALT", lot="S-9", sublot="BAY1", amount="5000", day="103")
     assert "received into lot S-9" in anna.text
     assert [row[0] for row in office.rows("SELECT mkey FROM moves WHERE lot = 'S-9'")] == [form["key"]]
+
+
+# Forms by the page where they stand: to where they are sent, what is typed, and what the page shows of it behind a log-in.
+TYPED = [
+    ("/count?owner=ACME", "/count", {"owner": "ACME", "lot": ["B-1", "B-1", "S-1"], "sublot": ["TOTE1", "TOTE2", "BAY1"], "on_hand": ["900", "80", "4700"], "counted": ["", "79", "4690"], "reason": ["", "leaked", "spilled"]},
+     ['value="79"', 'value="leaked"', 'value="4690"', 'value="spilled"']),
+    ("/lot/ACME/B-1", "/lot/ACME/B-1", {"what": "result", "test": "PH", "value": "7", "day": "103"}, ['maxlength="20" value="7"']),
+    ("/lot/ACME/B-1", "/lot/ACME/B-1", {"what": "hold", "reason": "metal found"}, ['value="metal found"']),
+    ("/lot/ACME/S-1", "/lot/ACME/S-1", {"what": "split", "key": "K90", "sublot": "BAY1", "target": "BAY9", "amount": "5", "day": "103"}, ['<details class="card" open>', 'value="K90"', 'value="BAY9"', 'value="5"']),
+    ("/lot/ACME/S-1", "/lot/ACME/S-1", {"what": "scrap", "key": "K90", "sublot": "BAY1", "amount": "5", "day": "103", "reason": "torn"}, ['<details class="card" open>', 'value="K90"', 'value="torn"']),
+    ("/recall?q=ACME%20S-1", "/case", {"owner": "ACME", "lot": "S-1", "reason": "metal found", "drill": "yes"}, ['value="metal found"', 'value="yes" checked']),
+    ("/case/C-1", "/case/C-1", {"what": "reply", "owner": "ACME", "party": "NORD", "lot": "B-1", "back": "200", "destroyed": "61", "gone": ""}, ['value="200"', 'value="61"']),
+    ("/case/C-1", "/case/C-1", {"what": "close", "reason": "used up"}, ['value="used up"']),
+]
+
+
+@pytest.mark.parametrize("at, path, fields, shown", TYPED, ids=[f"{path} {fields.get('what', '')}" for _, path, fields, _ in TYPED])
+def test_each_form_behind_the_end_of_a_session_is_shown_again(browse, desk, office, at, path, fields, shown):
+    if "/case/" in path:
+        with_a_case(office)
+    frida = browse("frida")
+    frida.get(at)
+    form, before = {**frida.form_of_page(), **fields}, (office.content(), noted_lines(office))
+    desk.sessions.end(frida.cookie().value)
+    frida.send(path, **form)
+    assert frida.status == 401 and "What you typed is kept" in frida.text
+    kept: dict[str, list[str]] = {}
+    for name, word in re.findall(HIDDEN, frida.page.partition("<footer")[0]):
+        kept.setdefault(name, []).append(html.unescape(word))
+    frida.send("/login", **{**kept, "login": "frida", "password": PERSONS["frida"][0]})
+    assert frida.status == 200 and [word for word in shown if word not in frida.page] == [], frida.page
+    assert (office.content(), noted_lines(office)) == before
+
+
+def with_a_case(office) -> None:
+    """Opens a case of a lot that a customer got."""
+    assert office.run("result", "ACME", "B-1", "PH", "7", "102").status == 0
+    with office.serve() as server:
+        assert server.ask("ACME", "POST", "/lots/B-1/release")[0] == 200
+    assert office.run("ship", "ACME", "K80", "B-1", "TOTE1", "300", "103", "--to", "NORD").status == 0
+    assert office.run("case", "open", "ACME", "S-1", "--reason", "metal").status == 0
+
+
+def noted_lines(office) -> list[dict]:
+    """The journal's lines but for what was shown."""
+    return [line for line in office.lines() if line.get("event") != "exported"]
 
 
 @pytest.mark.parametrize("word", ["<script>alert(1)</script>", "\"><img src=x onerror=alert(1)>", "{{ 7 * 7 }}", "%s%n", "'; DROP TABLE lots; --", "\u202egnp", "a\r\nSet-Cookie: x=1"])

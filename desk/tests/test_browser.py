@@ -63,6 +63,26 @@ def test_what_was_typed_is_kept_over_the_end_of_the_session(screens, desk, offic
     screen.shows("received into lot S-9")
 
 
+def test_a_count_is_brought_back_where_nothing_moved_since(screens, desk, office):
+    screen = screens()
+    screen.log_in("anna")
+    screen.open("/count?owner=ACME")
+    counted = screen.driver.find_elements(By.NAME, "counted")
+    for field, word in zip(counted, ("899", "79", "4690")):
+        field.send_keys(word)
+    assert office.run("split", "ACME", "K77", "B-1", "TOTE2", "TOTE3", "5", "103").status == 0
+    for session in desk.sessions.by_digest.values():
+        session.seen -= 3_600
+    screen.driver.refresh()
+    screen.shows("Log in")
+    screen.type("login", "anna")
+    screen.type("password", PERSONS["anna"][0])
+    screen.touch("main button.main")
+    screen.shows("Record the count")
+    shown = {field.get_attribute("data-of"): field.get_attribute("value") for field in screen.driver.find_elements(By.NAME, "counted")}
+    assert shown == {"B-1 TOTE1 900": "899", "B-1 TOTE2 75": "", "B-1 TOTE3 5": "", "S-1 BAY1 4700": "4690"}
+
+
 def test_pages_work_without_a_script(screens, office):
     screen = screens(has_script=False)
     screen.log_in("anna")

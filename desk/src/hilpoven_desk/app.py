@@ -11,7 +11,8 @@ from .pages import ALL
 from .pages.entrance import log_in_page
 from .reading import HELD
 from .recording import lines_of
-from .web import LANGUAGE_COOKIE, Answer, Desk, allows, answers_typed, fields_to_keep, new_slip, reader
+from .web import LANGUAGE_COOKIE, Answer, Desk, allows, answers_typed, fields_kept, fields_to_keep, new_slip, page_asked
+from .web import reader
 
 MOST_BODY = 256 * 1_024  # bytes of a request
 FORM = "application/x-www-form-urlencoded"  # what browsers send of these pages
@@ -84,11 +85,12 @@ def begin() -> Answer | None:
             g.session = session
         else:
             desk.sessions.end(name)
+    g.kept = fields_kept()
     if request.endpoint in OPEN:
         return None
     if g.session is None:
         why = g.reader.text("You were logged out. What you typed is kept: log in, and send it again.")
-        return log_in_page(why if request.method == "POST" else "", fields_to_keep(), request.full_path)
+        return log_in_page(why if request.method == "POST" else "", fields_to_keep(), page_asked())
     if request.method == "POST" and not hmac.compare_digest(token_sent(), g.session.token.encode()):
         return failed(g.reader.text("This form isn't from these screens. Open the page again."), 403)
     return None

@@ -8,6 +8,7 @@ from hilpoven.core import sessions
 
 from .recording import Outcome
 
+Fields = list[tuple[str, str]]  # of a form, by their names, of which there may be several
 MOST_DONE = 200  # forms of a session that are remembered
 MOST_NOTICES = 20
 
@@ -18,7 +19,7 @@ class Session(sessions.Session):
     kept, and what came of its forms, by the slip that each carries."""
 
     notices: list[Any] = field(default_factory=list)
-    kept: dict[str, dict[str, str]] = field(default_factory=dict)  # by their path
+    kept: dict[str, Fields] = field(default_factory=dict)  # by the path of their page
     done: "OrderedDict[str, Outcome]" = field(default_factory=OrderedDict)
     lock: threading.RLock = field(default_factory=threading.RLock)
 

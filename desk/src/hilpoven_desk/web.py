@@ -16,6 +16,7 @@ from hilpoven.core.delays import Delays, keys_of
 from hilpoven.model import views
 from hilpoven.model.register.standing import register_of
 from hilpoven.model.rows import LotId
+from werkzeug.datastructures import CombinedMultiDict, MultiDict
 from werkzeug.wrappers import Response as BaseResponse
 
 from .accounts import MOST_LOGIN, MOST_PASSWORD, Accounts, DeskPerson, Unavailable
@@ -23,14 +24,14 @@ from .language import Reader
 from .making import Contexts, Made
 from .reading import Reading
 from .recording import Entry, Outcome, State, check, doubt, give, may, new_key
-from .sessions import Session, Sessions
+from .sessions import Fields, Session, Sessions
 from .tables import KeptTables
 
 Answer = BaseResponse | str | tuple[str, int]
 Doubts = Callable[[Reading], Iterator[str]]  # about what is unusual
 LANGUAGE_COOKIE = "desk-language"
 CHOSEN = "_chosen"  # behind the name of a field: the choice beside it that is touched
-MOST_TEXT, MOST_FIELDS = 400, 60  # letters of a field, and fields of a form
+MOST_TEXT, MOST_FIELDS = 400, 1_200  # letters of a field, and fields of a form: a count has five of a place
 LEFT_OUT = {"token", "slip", "password", "asked", "answer", "seen"}  # fields that no form is filled in with again
 WRONG_TAKES = 1.0  # seconds that a wrong password takes
 MOST_CHECKS = 8  # passwords that are looked at, at once: other pages go on beside them
@@ -118,9 +119,14 @@ def allows(word: str) -> bool:
 # Fields
 
 
+def fields() -> CombinedMultiDict[str, str]:
+    """The fields of a request, and behind them those of a form that a log-in kept for its page."""
+    return CombinedMultiDict([request.values, g.kept])
+
+
 def typed(name: str) -> str:
     """What was typed in a field, without blanks around it, or chosen beside it."""
-    return (request.values.get(name, "").strip() or request.values.get(f"{name}{CHOSEN}", "").strip())[:MOST_TEXT]
+    return (fields().get(name, "").strip() or fields().get(f"{name}{CHOSEN}", "").strip())[:MOST_TEXT]
 
 
 def chosen_otherwise() -> dict[str, str]:
@@ -150,15 +156,28 @@ def day_typed(context: Context, name: str = "day") -> str:
 
 def values_of_form(**defaults: str) -> dict[str, str]:
     """What stands in the fields of a form: what it begins with, what a log-in kept of it, and what was sent."""
-    kept = session().kept.pop(request.path, {}) if request.method == "GET" else {}
-    sent = {name: value.strip()[:MOST_TEXT] for name, value in request.values.items() if name not in LEFT_OUT}
-    return {**defaults, **kept, **sent}
+    given = {name: value.strip()[:MOST_TEXT] for name, value in fields().items() if name not in LEFT_OUT}
+    return {**defaults, **given}
 
 
-def fields_to_keep() -> dict[str, str]:
-    """The fields of a form that came without a session, with which it is shown again."""
-    fields = [(name, value[:MOST_TEXT]) for name, value in request.form.items() if name not in LEFT_OUT | {"login"}]
-    return dict(fields[:MOST_FIELDS])
+def fields_to_keep() -> Fields:
+    """The fields of a form that came without a session, with which it is shown again; of a name there may be many."""
+    sent = request.form.items(multi=True)
+    return [(name, value[:MOST_TEXT]) for name, value in sent if name not in LEFT_OUT | {"login"}][:MOST_FIELDS]
+
+
+def fields_kept() -> "MultiDict[str, str]":
+    """The fields that a log-in kept for the page that is asked for, which has them once."""
+    kept = g.session.kept.pop(request.path, []) if g.session and request.method == "GET" else []
+    return MultiDict(kept)
+
+
+def page_asked() -> str:
+    """The page that is asked for. A form's address may have none: then it is the page on which the form stood."""
+    rule = request.url_rule
+    if rule is None or "GET" in (rule.methods or ()):
+        return request.full_path
+    return (request.referrer or "").removeprefix(desk().origin)
 
 
 def answers_typed() -> dict[str, str]:

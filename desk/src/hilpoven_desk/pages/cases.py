@@ -25,6 +25,7 @@ from ..web import (
     reading,
     text,
     typed,
+    values_of_form,
 )
 from .papers import at_most, sent
 
@@ -70,7 +71,7 @@ def case(number: str) -> Answer | Response:
             lines = outcome.lines if typed("what") == "hold" else ()
             return done(replace(outcome, lines=lines), summary, url_for("cases.case", number=number))
     status = asked("status", {"number": number})
-    return page("case.html", outcome, number=number, **status)
+    return page("case.html", outcome, number=number, values=values_of_form(), **status)
 
 
 def no_form(number: str) -> tuple[Outcome, str]:

@@ -1,6 +1,6 @@
 """Counting stock: what lies there is counted place by place, and differences are recorded with a reason."""
 import flask
-from flask import request
+from flask import g, request
 from hilpoven.core import meanings, roles
 from hilpoven.core.failure import FAULT
 from hilpoven.record.sheets import counting
@@ -24,15 +24,12 @@ def count() -> Answer | Response:
         name_typed("place"),
         name_typed("material"),
     )
-    counted, recorded, sent = (
-        None,
-        list[tuple[Difference, OfficeAnswer, str]](),
-        dict[tuple[str, str], dict[str, str]](),
-    )
+    counted, recorded = None, list[tuple[Difference, OfficeAnswer, str]]()
+    given = request.form if request.method == "POST" else g.kept
+    rows = [row_of(owner, str(context.day()), cells) for cells in zip(*map(given.getlist, COLUMNS))]
+    sent = {(row["lot"], row["sublot"]): row for row in rows}
     if request.method == "POST":
         roles.require(context, "count import")
-        rows = [row_of(owner, str(context.day()), cells) for cells in zip(*map(request.form.getlist, COLUMNS))]
-        sent = {(row["lot"], row["sublot"]): row for row in rows}
         counted = counting.of_rows(context, rows, typed("meant") == "yes")
         if not counted.is_wrong:
             recorded = [(each, answer, meaning_of(answer)) for each, answer in counting.record(context, counted)]

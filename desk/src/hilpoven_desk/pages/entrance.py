@@ -4,6 +4,7 @@ from flask import redirect, request
 from werkzeug.wrappers import Response
 
 from ..language import LANGUAGES
+from ..sessions import Fields
 from ..web import LANGUAGE_COOKIE, MOST_TEXT, Answer, desk, password_fault
 
 PAGE = flask.Blueprint("entrance", __name__)
@@ -12,11 +13,10 @@ START = "/"
 YEAR = 31_536_000  # seconds
 
 
-def log_in_page(why: str = "", kept: dict[str, str] | None = None, to: str = START, status: int = 0) -> Answer:
+def log_in_page(why: str = "", kept: Fields | None = None, to: str = START) -> Answer:
     """The form to log in, with the fields of a form that isn't lost."""
-    fields = kept or {}
-    status = status or (401 if why else 200)
-    return flask.render_template("log_in.html", why=why, kept=fields, to=path_of(to), login=""), status
+    status = 401 if why else 200
+    return flask.render_template("log_in.html", why=why, kept=kept or [], to=path_of(to), login=""), status
 
 
 def path_of(word: str) -> str:
@@ -31,7 +31,8 @@ def log_in() -> Answer | Response:
     if request.method == "GET":
         return log_in_page(to=request.args.get("to", START))
     login, to = request.form.get("login", "").strip(), path_of(request.form.get("to", START))
-    kept = {name[len(KEPT) :]: value[:MOST_TEXT] for name, value in request.form.items() if name.startswith(KEPT)}
+    sent = request.form.items(multi=True)
+    kept = [(name[len(KEPT) :], value[:MOST_TEXT]) for name, value in sent if name.startswith(KEPT)]
     if why := password_fault(login, request.form.get("password", "")):
         return flask.render_template("log_in.html", why=why, kept=kept, to=to, login=login[:MOST_TEXT]), 401
     desk().sessions.end(request.cookies.get(desk().cookie, ""))

@@ -42,7 +42,7 @@ def lot(owner: str, name: str) -> Answer | Response:
             "lot.html",
             outcome,
             values=values,
-            sent_form=typed("what"),
+            sent_form=values.get("what", ""),
             card=card,
             moves=office.moves_of(asked),
             usual=usual_of(card),

@@ -4,7 +4,7 @@
 
 const login = document.body.dataset.login ?? "";
 const KEPT = "desk ";
-const LEFT_OUT = new Set(["token", "slip", "seen", "key", "password", "day", "asked", "answer"]);
+const LEFT_OUT = new Set(["token", "slip", "seen", "key", "password", "day", "asked", "answer", "meant"]);
 const SENDING = 5000; // milliseconds in which a form isn't sent again
 const BESIDE = 5; // seconds after which a session is surely over
 
@@ -12,17 +12,25 @@ function nameOf(form) {
   return `${KEPT}${login} ${form.dataset.draft}`;
 }
 
+// Fields of one name are choices, or each says what it is of, such as of a lot and what was on hand of it.
+const isChoice = (field) => field.type === "radio" || field.type === "checkbox";
+const has = (field) => (isChoice(field) ? field.checked : field.value);
+const fieldsOf = (form) => [...form.elements].filter((field) => field.name && field.type !== "hidden" && !LEFT_OUT.has(field.name));
+
 function keep(form) {
-  const typed = [...new FormData(form)].filter(([name]) => !LEFT_OUT.has(name) && form.elements[name].type !== "hidden");
-  sessionStorage.setItem(nameOf(form), JSON.stringify(typed));
+  const typed = fieldsOf(form).filter(has);
+  sessionStorage.setItem(nameOf(form), JSON.stringify(typed.map((field) => [field.name, field.dataset.of ?? "", field.value])));
 }
 
 function bringBack(form) {
   const kept = sessionStorage.getItem(nameOf(form));
-  for (const [name, value] of kept ? JSON.parse(kept) : []) {
-    const field = form.elements[name];
-    if (field?.type === "radio") field.checked = field.value === value;
-    else if (field && field.type !== "hidden" && !field.value) field.value = value;
+  for (const [name, of, value] of kept ? JSON.parse(kept) : []) {
+    const fields = fieldsOf(form).filter((field) => field.name === name && (field.dataset.of ?? "") === of);
+    if (fields.some(has)) continue;
+    for (const field of fields) {
+      if (isChoice(field)) field.checked = field.value === value;
+      else field.value = value;
+    }
   }
 }
 
