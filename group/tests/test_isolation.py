@@ -356,6 +356,31 @@ def test_a_publisher_writes_rows_of_its_own_office_and_members_alone(two):
     assert two.content() == before
 
 
+def test_a_publisher_says_nothing_of_the_lots_of_another_office(two):
+    """Its rows count by the numbers of lots and batches, which are of its own office."""
+    ((lot, batch),) = two.rows("SELECT lot_id, batch_id FROM hg.moves WHERE lot = 'B-1' AND kind = 5")
+    south = two.plant("SOUTH")
+    with south.writing() as base:
+        south.receive(base, "ACME", "R-1")
+    assert south.publish() > 0
+    before = two.content()
+    move = "INSERT INTO hg.moves (gid, office, file, n, lot_id, batch_id, came, mkey, kind, lot_owner, lot, sublot, target, material, ord, number, segment, amount, day)"
+    with contextlib.closing(two.cluster.connect(two.name, "hg_publisher_SOUTH")) as base:
+        ((mine,),) = database.rows(base, "SELECT lot_id FROM hg.lots WHERE lot = 'R-1'")
+        for sql in (
+            f"{move} VALUES (1, 2, 1, 99, {lot}, 0, false, 'K-9', 2, 'ACME', 'B-1', 'A', '', 'END', '', 0, 0, 7, 261101)",
+            f"{move} VALUES (1, 2, 1, 99, {mine}, {batch}, false, 'K-9', 4, 'ACME', 'R-1', 'A', '', 'RAW', 'O-1', 1, 1, 7, 261101)",
+            f"INSERT INTO hg.lots (gid, office, file, n, lot_id, came, owner, lot, material, ord, number) VALUES (1, 2, 1, 99, {lot}, false, 'ACME', 'X', 'END', '', 0)",
+            f"INSERT INTO hg.results (gid, office, file, n, lot_id, lot, test, number, value, day) VALUES (1, 2, 1, 99, {lot}, 'B-1', 'PH', 1, 7, 261101)",
+            f"INSERT INTO hg.states (gid, office, lot_id, v, disposition) VALUES (1, 2, {lot}, 9, 1)",
+            f"INSERT INTO hg.links (gid, office, src, lot_id, batch_id, v, stands) VALUES (1, 2, {lot}, {mine}, 0, 1, true)",
+            f"INSERT INTO hg.links (gid, office, src, lot_id, batch_id, v, stands) VALUES (1, 2, {mine}, {lot}, 0, 1, true)",
+            f"INSERT INTO hg.links (gid, office, src, lot_id, batch_id, v, stands) VALUES (1, 2, {mine}, 0, {batch}, 1, true)",
+        ):
+            assert answer_of(base, sql) == "23514", sql  # a check is violated
+    assert two.content() == before
+
+
 def test_a_member_of_the_group_hilpoven_gives_none_of_these_words(two, monkeypatch):
     from hilpoven.cli import caller
 

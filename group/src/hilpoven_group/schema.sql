@@ -86,6 +86,17 @@ CREATE INDEX links_by_batch ON links (batch_id) WHERE batch_id <> 0;
 CREATE TABLE standing (gid integer, office smallint, file smallint, note text, v integer, fault text NOT NULL,
   seen timestamptz NOT NULL DEFAULT now(), PRIMARY KEY (gid, office, file, note, v));
 
+-- Lots and batches that an office names are its own (0 is none), so that its rows say nothing of another office's.
+DO $$
+DECLARE t text; c text;
+BEGIN
+  FOR t, c IN SELECT r.relname, n.attname FROM pg_class AS r JOIN pg_attribute AS o ON o.attrelid = r.oid
+      JOIN pg_attribute AS n ON n.attrelid = r.oid WHERE r.relnamespace = 'hg'::regnamespace AND r.relkind = 'r'
+      AND o.attname = 'office' AND n.attname IN ('lot_id', 'batch_id', 'src') LOOP
+    EXECUTE format('ALTER TABLE hg.%I ADD CHECK (%I = 0 OR %I >> 28 & 8191 = office)', t, c, c);
+  END LOOP;
+END $$;
+
 -- The chain of hashes over rows as the office has them. chain(line, first) is the head behind all lines, in the order
 -- of the aggregate.
 CREATE FUNCTION chain_next(head bytea, line text, first bytea) RETURNS bytea LANGUAGE sql IMMUTABLE PARALLEL SAFE
