@@ -43,6 +43,7 @@ def killed(group, kills: int, servers: tuple[int, ...] = (), at_once: int = 1) -
             enough = rows_of(group) + dice.randrange(1, 24)  # of 26 that come into the office
             processes = [begun(plant) for _ in range(at_once)]
             while rows_of(group) < enough:
+                assert os.waitpid(processes[0], os.WNOHANG) == (0, 0), "a publisher ended by itself"
                 time.sleep(0.002)
             if dice.random() < 0.5:
                 busy(plant, 10_000 + at)
