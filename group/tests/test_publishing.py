@@ -459,6 +459,18 @@ def test_the_database_is_away(plant, group, tmp_path):
     assert status.exit_code == 1 and "ATTENTION" in status.stdout
 
 
+def test_a_fault_of_the_database_that_lasts_is_told_as_one(plant, group):
+    whole, name = group.database, group.name
+    group.database = whole.replace(name, "postgres")  # which has no tables of a group
+    for words in (["--once"], ["--check"], ["verify"], ["digest", "ACME"]):
+        refused = plant.run("publish", *words)
+        assert refused.exit_code == 3 and refused.stderr == 'hilpoven: the group\'s database: schema "hg" does not exist\n', words
+    group.database = whole
+    group.rows("REVOKE INSERT ON hg.moves FROM hg_publisher; SELECT 1")
+    refused = plant.run("publish", "--once")
+    assert refused.exit_code == 1 and "refuses that: permission denied for table moves" in refused.stderr
+
+
 # How an office logs in
 
 

@@ -538,9 +538,10 @@ def load_state(file: str) -> State | None:
 
 @contextlib.contextmanager
 def publishing(context: Context, group: Group, tell: Callable[[str], None]) -> Iterator[Publisher]:
-    """A publisher of an office, over a copy that follows its file."""
+    """A publisher of an office, over a copy that follows its file. Each fault of the database that it can't wait out is
+    a failure."""
     context.office()
-    with following(context.file, context.settings.wait) as replica:
+    with database.failing(group.database), following(context.file, context.settings.wait) as replica:
         publisher = Publisher(context, group, replica, tell)
         try:
             yield publisher

@@ -10,7 +10,7 @@ from hilpoven.core.context import Context
 from hilpoven.core.days import zone_of
 from hilpoven.core.failure import FAULT, REFUSED, WRONG_USE, Failure, printable
 
-from . import database, publisher, settings, verifying
+from . import publisher, settings, verifying
 from .publisher import Publisher
 from .tables import TABLES
 
@@ -28,7 +28,7 @@ def publish_group(context: Context, once: bool, is_check: bool, accepted: int | 
     group, is_first = settings.of_office(context), publisher.load_state(context.file) is None
     with publisher.publishing(context, group, say) as publish:
         if is_check or accepted is not None:
-            back = resumed(publish)
+            back = publish.resume()
             gone = sum(part.gone for part in back)
             if accepted is not None and accepted != gone:
                 raise Failure(f"the office lacks {gone:,} rows that the group has, not {accepted:,}", REFUSED)
@@ -44,14 +44,6 @@ def publish_group(context: Context, once: bool, is_check: bool, accepted: int | 
             raise Failure(publish.state.fault, FAULT)
         click.echo(f"sent {publish.sent:,}; {counted(publish)}")
         tell(f"next: systemctl enable --now toll-publish@{context.settings.office}" if is_first else "")
-
-
-def resumed(publish: Publisher) -> list[publisher.SetBack]:
-    """Where the group is, and what the office doesn't have."""
-    try:
-        return publish.resume()
-    except database.LOST as error:
-        raise Failure(f"the group's database: {database.first_line(error)}", FAULT) from error
 
 
 def counted(publish: Publisher) -> str:
@@ -86,7 +78,7 @@ def publish_verify(context: Context, is_full: bool) -> None:
     """`hilpoven publish verify`."""
     context.person.require_operator("publish")
     with publisher.publishing(context, settings.of_office(context), say) as publish:
-        publisher.require_level(resumed(publish))
+        publisher.require_level(publish.resume())
         report = verifying.compared(publish)
         verifying.compare_recalls(publish, is_full, report)
     for fault in report.faults:
@@ -99,7 +91,7 @@ def publish_digest(context: Context, owner: str, form: str | None) -> None:
     """`hilpoven publish digest`."""
     context.person.require_operator("publish")
     with publisher.publishing(context, settings.of_office(context), say) as publish:
-        resumed(publish)
+        publish.resume()
         rows = verifying.digest(publish, owner)
     if not rows:
         raise Failure(f"{owner} is no company of the group", REFUSED)
