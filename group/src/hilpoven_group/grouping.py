@@ -13,7 +13,7 @@ from hilpoven.core.context import Context
 from hilpoven.core.failure import REFUSED, WRONG_USE, Failure, printable
 from hilpoven.model.genealogy import BACK, FORWARD
 
-from . import database, exports, members, recalls, settings
+from . import database, exports, members, recalls, settings, verifying
 from .database import Connection
 from .tables import TABLES
 
@@ -29,7 +29,6 @@ ON_PLANT = """next, on its machine as root, if the office is called {plant} ther
   hilpoven --office {plant} publish --once
 and here, each company with the owners that it is
   sudo -u postgres hilpoven group company add COMPANY --member {plant} OWNER"""
-COMPUTED = "SELECT office, file, tbl, owner, n, head, told, told_head FROM hg.computed_heads(%s)"
 
 
 @contextlib.contextmanager
@@ -163,13 +162,12 @@ def verify(context: Context, office: str | None) -> None:
     with asked(context) as base:
         if office:
             members.office_number(base, office)
-        rows = database.rows(base, COMPUTED, (office,))
-    faults = 0
-    for number, file, mark, owner, n, head, count, last in rows:
-        if (n, n and bytes(head)) != (count, count and bytes(last)):
-            faults += 1
-            subject = f"{TABLES[mark].name} of {owner or 'nobody'} in file {file} of office {number}"
-            click.echo(printable(f"{subject}: {n:,} rows don't give the head of {count:,}"))
-    state = "the same" if not faults else f"{faults:,} differ"
-    click.echo(f"{len(rows):,} heads of {sum(row[4] for row in rows):,} rows: {state}")
+        heads = verifying.computed(base, office)
+    faults = [head for head in heads if not head.is_as_published]
+    for head in faults:
+        file, mark, owner = head.key
+        subject = f"{TABLES[mark].name} of {owner or 'nobody'} in file {file} of office {head.office}"
+        click.echo(printable(f"{subject}: {head.own.n:,} rows don't give the head of {head.published.n:,}"))
+    state = "the same" if not faults else f"{len(faults):,} differ"
+    click.echo(f"{len(heads):,} heads of {sum(head.own.n for head in heads):,} rows: {state}")
     sys.exit(REFUSED if faults else 0)

@@ -1,5 +1,6 @@
 """Whether the group has exactly an office's rows, computed on both sides; and what it has besides them."""
 from dataclasses import dataclass, field
+from typing import NamedTuple
 
 from hilpoven.core.failure import Failure
 from hilpoven.core.office import Office as Asked
@@ -22,7 +23,7 @@ WHERE m.office = %s AND m.file = %s AND NOT EXISTS (SELECT 1 FROM hg.voids AS v 
   AND v.office = m.office AND v.file = m.file AND v.mkey = m.mkey)
 GROUP BY 1, 2 HAVING sum(x.amount) <> 0
 """
-COMPUTED = "SELECT file, gid, tbl, owner, n, head, told, told_head FROM hg.computed_heads(%s)"
+COMPUTED = "SELECT office, file, tbl, owner, n, head, told, told_head FROM hg.computed_heads(%s)"
 
 
 @dataclass
@@ -39,6 +40,28 @@ class Report:
         """What was compared."""
         state = "the same" if not self.faults else f"{len(self.faults):,} differences"
         return f"{self.rows:,} rows, {self.heads:,} heads, {self.recalls:,} recalls: {state}"
+
+
+class Computed(NamedTuple):
+    """A head that the group computed of the rows of an owner's table, and that which the office published."""
+
+    office: int
+    key: Key
+    own: Head
+    published: Head
+
+    @property
+    def is_as_published(self) -> bool:
+        """Whether the rows give the head that was published; without rows there is none."""
+        return self.own == self.published or not self.own.n and not self.published.n
+
+
+def computed(base: Connection, office: str | None = None) -> list[Computed]:
+    """The heads of an office's rows, or of all that whoever asks may see."""
+    return [
+        Computed(number, (file, mark, owner), Head(n, bytes(head or b"")), Head(count, bytes(published or b"")))
+        for number, file, mark, owner, n, head, count, published in database.rows(base, COMPUTED, (office,))
+    ]
 
 
 def own_heads(publish: Publisher) -> dict[Key, Head]:
@@ -72,13 +95,13 @@ def compared(publish: Publisher) -> Report:
 
 
 def compare_heads(base: Connection, office: Office, ours: dict[Key, Head], report: Report) -> None:
-    """Compares heads that the group computes of its rows with the office's, and with those that were told it."""
+    """Compares heads that the group computes of its rows with the office's, and with those that were published."""
     theirs: dict[Key, Head] = {}
-    for file, _, mark, owner, n, head, count, last in database.rows(base, COMPUTED, (office.name,)):
-        key = file, mark, owner
-        if n:
-            theirs[key] = Head(n, bytes(head))
-        if (n, n and bytes(head)) != (count, count and bytes(last)):
+    for each in computed(base, office.name):
+        file, mark, owner = each.key
+        if each.own.n:
+            theirs[each.key] = each.own
+        if not each.is_as_published:
             report.faults.append(f"{TABLES[mark].name} of {owner} in file {file}: the group's rows don't give its head")
     for key in sorted({*ours, *theirs}):
         own, other = (heads.get(key, Head(0, b"")) for heads in (ours, theirs))
