@@ -46,6 +46,7 @@ def batch(owner: str, order: str, number: int) -> Answer | Response:
             sublot=label[1] if label else "",
             need=card.need_of(lot) if lot else None,
             choices=[] if label or not scan else office.sublots_called(scan),
+            command_text=command_text,
             places=office.places,
             usual={
                 need.material: usual_of(office, name, need.material) for need in card.needs if need.use == "produced"
@@ -143,18 +144,18 @@ def unusual(office: Reading, name: BatchId, line: Mapping[str, str]) -> Iterator
 
 def command_text(command: str) -> str:
     """A command of a batch in the reader's words."""
-    return text(COMMANDS.get(command, command))
+    texts = {
+        "start": text("Start"),
+        "hold": text("Hold"),
+        "restart": text("Restart"),
+        "pause": text("Pause"),
+        "resume": text("Resume"),
+        "stop": text("Stop"),
+        "abort": text("Abort"),
+        "reset": text("Reset"),
+        "done": text("Done"),
+    }
+    return texts.get(command, command)
 
 
 FORMS = {"do": do, "close": close, "void": void, "consume": consume, "produce": produce}
-COMMANDS = {
-    "start": "Start",
-    "hold": "Hold",
-    "restart": "Restart",
-    "pause": "Pause",
-    "resume": "Resume",
-    "stop": "Stop",
-    "abort": "Abort",
-    "reset": "Reset",
-    "done": "Done",
-}
