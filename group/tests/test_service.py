@@ -1,10 +1,14 @@
 """The question service: each login asks under its own role, and nothing else is answered."""
 import base64
+import pathlib
 import re
+import subprocess
 
+import psycopg2
 import pytest
 from group_of_plants import SHIP
 from hilpoven_group import service, settings
+from test_publishing import eventually
 
 
 @pytest.fixture
@@ -79,6 +83,35 @@ def test_a_database_that_is_away_is_told_without_its_address(group):
     assert reply.status_code == 503 and "secret" not in reply.text and "nowhere" not in reply.text
 
 
+def test_persons_who_log_in_at_the_database_still_do_once_the_service_has_logins(group):
+    """PostgreSQL goes by the first line that a role is of, and those of persons are behind the service's."""
+    group.plant("NORTH", owners=("ACME",))
+    ((file,),) = group.rows("CREATE ROLE jane LOGIN IN ROLE hg_reader; SELECT current_setting('hba_file')")
+    hba = pathlib.Path(file)
+    before = hba.read_text()
+    commands = group.run("group", "login", "add", "quality").stderr.strip().removeprefix("next, as root: ").split(" && ")
+    try:
+        subprocess.run(commands[0], shell=True, check=True)
+        group.rows("SELECT pg_reload_conf()")
+        eventually(lambda: is_refused(group, "hg_quality"))
+        assert group.rows("SELECT count(*) FROM hg.ages()", "jane") == [(1,)]
+        assert all(is_refused(group, role) for role in ("hg_service", group.rows("SELECT role FROM hg.companies WHERE name = 'ACME'")[0][0]))
+    finally:
+        hba.write_text(before)
+        group.rows("SELECT pg_reload_conf(); DROP ROLE jane; SELECT 1")
+        eventually(lambda: not is_refused(group, "hg_quality"))
+
+
+def is_refused(group, role: str) -> bool:
+    """Whether PostgreSQL lets this process in as a role only as the service's user."""
+    try:
+        group.rows("SELECT 1", role)
+    except psycopg2.OperationalError as error:
+        assert "Peer authentication failed" in str(error)
+        return True
+    return False
+
+
 def test_a_login_says_which_lines_of_postgresql_are_missing(group):
     """They are commands of a shell, and none is told again once PostgreSQL has the line."""
     group.plant("NORTH", owners=("ACME",))
@@ -86,6 +119,6 @@ def test_a_login_says_which_lines_of_postgresql_are_missing(group):
     assert re.fullmatch("[0-9a-f]{40}\n", added.stdout)
     commands = added.stderr.strip().removeprefix("next, as root: ").split(" && ")
     role = group.rows("SELECT role FROM hg.companies WHERE name = 'ACME'")[0][0]
-    assert commands[0].startswith(f"sed -i '1i local {group.name} hg_service,+hg_reader,+hg_company peer map=group' ")
+    assert commands[0].startswith(f"sed -i '1i local {group.name} hg_service,hg_quality,+hg_company peer map=group' ")
     assert commands[-3].startswith(f"echo group hilpoven-group {role} >> ")
     assert commands[-2:] == ["systemctl reload postgresql", "systemctl enable --now hilpoven-group"]

@@ -141,7 +141,7 @@ def lines_missing(base: Connection, role: str) -> list[str]:
     commands = []
     sql = "SELECT 1 FROM pg_hba_file_rules WHERE type = 'local' AND 'map=group' = ANY (options)"
     if not database.value(base, sql):
-        rule = f"local {name} {SERVICE},+hg_reader,+hg_company peer map=group"
+        rule = f"local {name} {SERVICE},{QUALITY},+hg_company peer map=group"
         commands.append(f"sed -i {shlex.quote(f'1i {rule}')} {shlex.quote(hba)}")
     sql = "SELECT 1 FROM pg_ident_file_mappings WHERE map_name = 'group' AND sys_name = %s AND pg_username = %s"
     for mapped in (SERVICE, role):
