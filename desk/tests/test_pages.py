@@ -246,6 +246,25 @@ def test_a_count_records_its_differences_once(browse, office):
     assert office.content() == before and "1 place is as on hand." in anna.text
 
 
+def test_what_is_wrong_with_a_count_is_said_at_its_row_which_is_counted_again(browse, office):
+    anna = browse("anna")
+    anna.get("/count?owner=ACME")
+    places = {"lot": ["B-1", "S-1"], "sublot": ["TOTE1", "BAY1"], "meant": "yes"}
+    form = {**anna.form(), **places, "on_hand": ["900", "4700"], "counted": ["890", "4690"], "reason": ["leaked", ""]}
+    assert office.run("split", "ACME", "K77", "B-1", "TOTE1", "TOTE9", "50", "103").status == 0
+    before = office.content()
+    anna.send("/count", **form)
+    assert anna.status == 409 and office.content() == before
+    assert "BAY1 · S-1: 4,690 counted and 4,700 on hand: a difference needs a reason" in anna.text, anna.text
+    rows = {re.search(r'name="sublot" value="([^"]+)"', row)[1]: row for row in re.findall(r'<li class="count">.*?</li>', anna.page, re.S)}
+    assert 'value="4690" aria-invalid="true"' in rows["BAY1"] and "a difference needs a reason" in rows["BAY1"]
+    assert 'name="on_hand" value="850"' in rows["TOTE1"] and "Other movements changed what is on hand: count it again." in rows["TOTE1"]
+    assert "890" not in rows["TOTE1"] and "leaked" not in rows["TOTE1"] and "aria-invalid" not in rows["TOTE2"]
+    anna.send("/count", **{**form, "on_hand": ["850", "4700"], "counted": ["845", "4690"], "reason": ["leaked", "spilled"]})
+    assert anna.status == 200, anna.text
+    assert office.rows("SELECT sublot, amount FROM sublots WHERE sublot IN ('TOTE1', 'BAY1') AND owner = 'ACME' ORDER BY 1") == [("BAY1", 4_690), ("TOTE1", 845)]
+
+
 def test_papers_and_labels_are_made_and_noted(browse, office, monkeypatch):
     pytest.importorskip("weasyprint")
     anna = browse("anna")

@@ -13,6 +13,7 @@ from ..web import Answer, BLANKS, desk, name_typed, person, reading, typed
 PAGE = flask.Blueprint("counts", __name__)
 COLUMNS = ("lot", "sublot", "on_hand", "counted", "reason")
 MOST_ROWS = 200  # of a page
+FIRST_ROW = 2  # of a sheet, behind its head
 
 
 @PAGE.route("/count", methods=["GET", "POST"])
@@ -53,6 +54,7 @@ def count() -> Answer | Response:
             counted=counted,
             recorded=recorded,
             sent=sent,
+            faults=faults_of(counted, rows),
             same=counted.outcomes[Outcome.SAME] + counted.outcomes[Outcome.THERE] if counted else 0,
             is_open=is_open(counted),
         )
@@ -62,6 +64,12 @@ def count() -> Answer | Response:
 def is_open(counted: Count | None) -> bool:
     """Whether something of a count isn't recorded."""
     return counted is not None and bool(counted.is_wrong or counted.refused or counted.fault)
+
+
+def faults_of(counted: Count | None, rows: list[dict[str, str]]) -> dict[tuple[str, str], str]:
+    """Why rows of a count are refused, by their lots and places."""
+    refused = [(rows[each.row - FIRST_ROW], each.words) for each in (counted.refused if counted else [])]
+    return {(row["lot"], row["sublot"]): words for row, words in refused}
 
 
 def row_of(owner: str, day: str, cells: tuple[str, ...]) -> dict[str, str]:
