@@ -17,8 +17,9 @@ def recall() -> Answer:
         noted = office.lots_noted(word) if word and not label and not lots else []
         lot = label[0] if label else lots[0].id if len(lots) == 1 else None
         if lot is None:
-            named = {"lots": lots, "noted": noted, "state": office.state}
-            return page("recall.html", q=word, values=values, report=None, card=None, **named)
+            return page(
+                "recall.html", q=word, values=values, lots=lots, noted=noted, report=None, card=None, state=office.state
+            )
         card, report = office.card(lot), office.recall(lot)
         context.office_to_export("desk", "recall", *lot)
         return page("recall.html", q=word, values=values, lots=[], noted=[], report=report, card=card, LotId=LotId)
