@@ -10,7 +10,7 @@ from conftest import OWNERS, PASSWORD, PEOPLE, ROOT, Browser, Site, hilpoven
 from click.testing import CliRunner
 from hilpoven.cli import caller, hilpoven as commands
 from hilpoven.core import delays, roles, sessions, settings as site_settings
-from hilpoven_persons import door, passwords
+from hilpoven_persons import door, owner_keys, passwords, serving
 from site_client import ask, at_once, sent
 
 READING = ["/orders", "/stock", "/lots/LOT-OF-ACME", "/trace/back/LOT-OF-ACME", "/trace/forward/LOT-OF-ACME"]
@@ -113,6 +113,18 @@ def test_a_key_that_is_changed_is_followed(site: Site) -> None:
         site.run("owner", "key", "CARL", stdin="CARLKEY1")
 
 
+def test_a_lock_that_is_taken_for_long_holds_no_person_up(site: Site) -> None:
+    """As by an import, between whose groups the office answers owners."""
+    other = serving.door_of(site.context)
+    assert other.keys.of("ACME") == "ACMEKEY1"
+    site.office.do("unit-add HELD-UP")  # so the keys are read anew
+    with site.office.locked():
+        time.sleep(owner_keys.PAUSE)
+        begun = time.monotonic()
+        assert other.keys.of("ACME") == "ACMEKEY1"
+        assert time.monotonic() - begun < serving.OFFICE_PATIENCE
+
+
 # Without a session
 
 
@@ -146,6 +158,16 @@ def test_a_log_in_ends_the_session_before_it(site: Site) -> None:
     assert browser.log_in("rosa").status == 200
     browser.cookie, browser.token = cookie, token
     assert browser.ask("/person/stock").is_error(401, "LogIn")
+
+
+def test_who_logs_in_often_ends_its_own_sessions_alone(site: Site, monkeypatch: pytest.MonkeyPatch) -> None:
+    """However many there may be in all: otherwise one owner's person could log all others off."""
+    monkeypatch.setattr(sessions, "MOST", 30)
+    persons, fresh_door = site.door.persons.now(), door.Door(site.door.persons, site.door.keys)
+    other, _ = fresh_door.begin(persons["bo"])
+    begun = [fresh_door.begin(persons["rita"])[0] for _ in range(40)]
+    assert fresh_door.sessions.find(other)
+    assert [name for name in begun if fresh_door.sessions.find(name)] == begun[-sessions.MOST_OF_LOGIN :]
 
 
 def test_logging_out_ends_the_session(site: Site) -> None:
@@ -207,12 +229,12 @@ def test_a_wrong_password_lets_nobody_in(site: Site, fresh: None, password: str)
     assert browser.log_in("rita", password).is_error(401, "Wrong") and not browser.cookie
 
 
-@pytest.mark.parametrize("name", ["nobody", "ACME", "Rita", "rita ", " rita", "rita\0", "HOUSE", "", "ACMEKEY1", "*", "../rita", "root", "carla", "ŕita"])
+@pytest.mark.parametrize("name", ["nobody", "ACME", "Rita", "rita ", " rita", "rita\0", "HOUSE", "", "ACMEKEY1", "*", "../rita", "root", "carla", "ŕita", "\ud800"])
 def test_a_name_that_is_nobody_s_is_told_as_a_wrong_password(site: Site, fresh: None, name: str) -> None:
     assert site.browser().log_in(name, PASSWORD.format("rita")).is_error(401, "Wrong")
 
 
-@pytest.mark.parametrize("body", [b"", b"{", b"[]", b'"rita"', b'{"name":"rita"}', b'{"name":["rita"],"password":"word-of-rita-1"}', b'{"name":{"$ne":1},"password":{"$ne":1}}', b"name=rita&password=word-of-rita-1", b"\xff\xfe"])
+@pytest.mark.parametrize("body", [b"", b"{", b"[]", b'"rita"', b'{"name":"rita"}', b'{"name":["rita"],"password":"word-of-rita-1"}', b'{"name":{"$ne":1},"password":{"$ne":1}}', b"name=rita&password=word-of-rita-1", b"\xff\xfe", pytest.param(b"[" * 4000, id="deep")])
 def test_what_is_no_log_in_is_none(site: Site, body: bytes) -> None:
     reply = site.browser().ask("/person/log-in", "POST", body)
     assert reply.is_error(400, "BadRequest") and "set-cookie" not in reply.fields

@@ -156,7 +156,10 @@ def log_in(door: Door) -> Answer:
     """Logs a person in: sets the cookie, and gives the token, the owner and what the person may do."""
     if not is_from_here():
         return refused("NotAllowed", 403)
-    sent = request.get_json(force=True, silent=True)
+    try:
+        sent = request.get_json(force=True, silent=True)
+    except RecursionError:  # of lists within lists
+        sent = None
     name, password = (sent.get(each) for each in ("name", "password")) if isinstance(sent, dict) else (None, None)
     if not isinstance(name, str) or not isinstance(password, str):
         return refused("BadRequest", 400)

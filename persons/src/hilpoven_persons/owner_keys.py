@@ -9,9 +9,8 @@ from hilpoven.core.forms import secret_fault
 from hilpoven.core.office import Office
 from hilpoven.core.snapshot import Stamp
 
-PAUSE = (
-    1.0  # seconds between two readings, for which the office's lock is taken. A key that was changed meanwhile is old
-)
+PAUSE = 1.0  # seconds between two readings, for which the office's lock is taken. A key changed meanwhile is old
+SOON = 0.2  # seconds for that lock, where keys are known: an import has it for long, and answers owners meanwhile
 
 
 class KeptKeys:
@@ -35,6 +34,7 @@ class KeptKeys:
     def renew(self, office: Office, stamps: tuple[Stamp, Stamp]) -> None:
         """Reads the keys anew. Where that fails and others are known, these stay until it can be done."""
         is_settled = all(map(snapshot.is_settled, stamps))
+        office = office if self.keys is None else office._replace(wait=SOON)
         try:
             with snapshot.read_briefly(office) as base:
                 rows = base.execute("SELECT owner, okey FROM owners").fetchall()

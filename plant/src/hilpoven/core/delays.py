@@ -70,7 +70,9 @@ def keys_of(login: str, address: str) -> dict[str, int]:
     """The keys of a try, of a fixed size however long its words are, each with how many wrong ones are free."""
     network = network_of(address)
     names = {"login and address": f"{network} {login}", "login": login, "address": network}
-    digests = {kind: hashlib.sha256(f"{kind} {name}".encode()).hexdigest()[:32] for kind, name in names.items()}
+    digests = {
+        kind: hashlib.sha256(f"{kind} {name}".encode(errors="replace")).hexdigest()[:32] for kind, name in names.items()
+    }
     return {digests[kind]: free for kind, free in FREE.items()}
 
 

@@ -3,12 +3,12 @@ import hashlib
 import secrets
 import threading
 import time
-from collections.abc import Callable
+from collections.abc import Callable, Collection
 from dataclasses import dataclass, field
 from typing import Generic, TypeVar
 
 IDLE, LONGEST = 15 * 60, 12 * 3_600  # seconds
-MOST = 5_000  # sessions
+MOST, MOST_OF_LOGIN = 5_000, 20  # sessions: nobody's many are to end those of others
 
 
 @dataclass
@@ -41,10 +41,15 @@ class Sessions(Generic[Kind]):
         name, session = secrets.token_urlsafe(32), self.new(login)
         with self.lock:
             self.by_digest = {digest: other for digest, other in self.by_digest.items() if not other.is_over}
-            if len(self.by_digest) >= MOST:
-                del self.by_digest[min(self.by_digest, key=lambda digest: self.by_digest[digest].seen)]
+            self.make_room([digest for digest, other in self.by_digest.items() if other.login == login], MOST_OF_LOGIN)
+            self.make_room(self.by_digest, MOST)
             self.by_digest[digest_of(name)] = session
         return name, session
+
+    def make_room(self, digests: Collection[str], most: int) -> None:
+        """Ends the one of these sessions that is unused for longest, if there are so many."""
+        if len(digests) >= most:
+            del self.by_digest[min(digests, key=lambda digest: self.by_digest[digest].seen)]
 
     def find(self, name: str, is_use: bool = True) -> Kind | None:
         """The session of a name that isn't over. This is a use of it, unless a browser asks by itself."""
