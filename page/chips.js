@@ -41,8 +41,13 @@ export function shape(word, x = 0, y = 0) {
     svg("path", { class: "filled", "fill-rule": "evenodd", d: filled }), upon && svg("path", { class: "drawn", d: upon }));
 }
 
+const drawn = new Map();
+
 /**
- * A word with its shape and colour. The shape is a part of shapes.svg by style.css: an element of SVG in each row of a long
- * list would take most of the time in which it is drawn.
+ * A word with its shape and colour: a copy, since a long list has few words. The shape is a part of shapes.svg by style.css:
+ * an element of SVG in each row would take most of the time in which the list is drawn.
  */
-export const chip = word => html("span", { class: `chip ${toneOf(word)} shape-${WORDS[word]?.[1] ?? "ring"}` }, textOf(word));
+export function chip(word) {
+  if (!drawn.has(word)) drawn.set(word, html("span", { class: `chip ${toneOf(word)} shape-${WORDS[word]?.[1] ?? "ring"}` }, textOf(word)));
+  return drawn.get(word).cloneNode(true);
+}

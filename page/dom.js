@@ -22,7 +22,7 @@ const isThere = child => child !== null && child !== undefined && child !== fals
 /** Puts a child into an element, or each of a list. What is no element becomes a text node. */
 export function put(element, child) {
   if (Array.isArray(child)) for (const each of child) put(element, each);
-  else if (isThere(child)) element.append(child instanceof Node ? child : String(child));
+  else if (isThere(child)) element.appendChild(child instanceof Node ? child : document.createTextNode(child));
 }
 
 function fill(element, given, inner) {

@@ -9,7 +9,7 @@ import { number } from "./values.js";
 const PART = 50;
 
 /** How many rows are drawn before the page may answer in between. */
-const AT_ONCE = 600;
+const AT_ONCE = 1000;
 
 /** The most rows of a table that is printed although it is folded on the screen: some four sheets. */
 export const MOST_PRINTED = 100;
