@@ -9,7 +9,7 @@ import { beginning } from "./sight.js";
 const SMALLEST = 0.64;
 
 export class Frame {
-  element = html("div", { class: "picture", tabindex: 0, role: "region", "aria-label": t`Picture of the genealogy` });
+  element = html("div", { class: "picture", tabindex: 0, role: "region", "aria-label": t`Picture of the genealogy`, "data-wide": t`The picture is too wide for a sheet. The table has all lots.` });
   #picture = null;
   #layout = null;
   #asked = null;

@@ -91,6 +91,12 @@ test("the code has no text that isn't put in the reader's language", () => {
   assert.deepEqual(bare.map(({ name, text }) => `${name}: ${text}`).filter(line => !EXPECTED.has(line)), []);
 });
 
+test("what style.css writes has no words, which would be of one language", () => {
+  const style = readFileSync(new URL("../style.css", import.meta.url), "utf8").replace(/\/\*.*?\*\//gs, "");
+  const written = [...style.matchAll(/content:([^;]*);/g)].flatMap(([, value]) => [...value.matchAll(/"((?:\\[0-9A-F]+|[^"])*)"/g)]).map(([, text]) => text);
+  assert.deepEqual(written.filter(text => /[a-z]/i.test(text.replace(/\\[0-9A-F]+/g, ""))), []);
+});
+
 test("what others made in English is found by its words", () => {
   const texts = LITERALS.filter(({ name, text }) => BY_PHRASE.has(name) && isProse(text) && !WORDS_OF_OTHERS.has(text) && !/^(?:card|fields)/.test(text));
   speak("de");

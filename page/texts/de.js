@@ -370,6 +370,7 @@ export const DE = {
     "the lot that was asked for": "die gefragte Charge",
     "shows its lots": "zeigt ihre Chargen",
     "this lot": "gefragt",
+    "The picture is too wide for a sheet. The table has all lots.": "Das Bild ist zu breit für ein Blatt. Die Tabelle hat alle Chargen.",
     "The same as a table": "Dasselbe als Tabelle",
     "The lots of the genealogy, with their fewest steps": "Die Chargen der Abstammung mit ihren wenigsten Schritten",
     "genealogy of {0}": "Abstammung von {0}",
