@@ -1,5 +1,6 @@
 """What the tests of the tools share: tools that are run, and programs that stand in for others."""
 import pathlib
+import signal
 import subprocess
 import sys
 import time
@@ -15,6 +16,12 @@ sys.path[:0] = [str(TOOLS), str(ROOT)]
 from tests.harness import eventually  # noqa: E402
 
 __all__ = ["PATIENCE", "ROOT", "TOOLS", "eventually", "quick_guesses", "script", "tool"]
+
+
+def heed_signals() -> None:
+    """Lets signals end what is started, also if these tests run in the background, which ignores some."""
+    for number in (signal.SIGHUP, signal.SIGINT, signal.SIGTERM):
+        signal.signal(number, signal.SIG_DFL)
 
 
 def tool(name: str | pathlib.Path, *words: object, **options: Any) -> "subprocess.CompletedProcess[str]":

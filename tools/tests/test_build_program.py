@@ -11,7 +11,7 @@ from pathlib import Path
 from typing import Any
 
 import pytest
-from conftest import PATIENCE, ROOT, eventually
+from conftest import PATIENCE, ROOT, eventually, heed_signals
 from tests.harness import Result
 
 RT = r"""#!/usr/bin/python3
@@ -96,12 +96,6 @@ WIDER = CRATES.replace("wide: low", "wide: low slab")
 LIBRARIES = "low mid_a mid_b mid_c short wide"
 ALL = "low mid_a mid_b mid_c short toll wide"
 STARTED_BY = "tools/build-program"
-
-
-def heed_signals() -> None:
-    """Lets signals end what is started, also if these tests run in the background, which ignores some."""
-    for number in (signal.SIGHUP, signal.SIGINT, signal.SIGTERM):
-        signal.signal(number, signal.SIG_DFL)
 
 
 def ended(process: "subprocess.Popen[str]", given: str = "") -> Result:

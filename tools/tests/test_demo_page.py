@@ -9,7 +9,7 @@ from collections.abc import Callable
 from typing import Any
 
 import pytest
-from conftest import PATIENCE, ROOT, eventually, script
+from conftest import PATIENCE, ROOT, eventually, heed_signals, script
 
 BUILDER = """printf '%s\\n' "toll: step 1 of 2" >&2
 touch {folder}/began
@@ -62,7 +62,7 @@ class Clone:
 
     def start(self, *words: str, **options: Any) -> "subprocess.Popen[str]":
         pipes: dict[str, Any] = {"stdout": subprocess.PIPE, "stderr": subprocess.PIPE, "env": self.environment}
-        pipes["preexec_fn"] = heed_interrupts
+        pipes["preexec_fn"] = heed_signals
         process: subprocess.Popen[str] = subprocess.Popen([str(self.page), *words], text=True, **pipes | options)
         return process
 
@@ -70,11 +70,6 @@ class Clone:
         process = self.start(*words, **options)
         out, err = process.communicate(timeout=PATIENCE)
         return process.returncode, out, err
-
-
-def heed_interrupts() -> None:
-    """What a shell starts behind `&` ignores SIGINT, and so do all tests that it runs."""
-    signal.signal(signal.SIGINT, signal.SIG_DFL)
 
 
 @pytest.fixture
