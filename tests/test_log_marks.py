@@ -21,6 +21,7 @@ ORDER = '> ACME ACMEKEY1 POST /orders {"order":"N-%d","recipe":"R","batches":1}'
 ORDERS = "> ACME ACMEKEY1 GET /orders"
 FRAME_BYTES = 24 + 4096
 MARK_BYTES = 88
+READS_OF_A_LOOK = 12  # at the least, by which an opening looks for a marked commit of three orders
 
 
 def log_of(office: Office) -> pathlib.Path:
@@ -437,8 +438,9 @@ def test_a_marked_log_that_cannot_be_opened_or_read_is_no_loss(disks: list[Disk]
     } == {}
 
 
-@pytest.mark.parametrize("most", [12, pytest.param(1000, marks=pytest.mark.long)])
+@pytest.mark.parametrize("most", [READS_OF_A_LOOK, pytest.param(1000, marks=pytest.mark.long)])
 def test_a_marked_log_that_is_read_in_parts_is_no_loss(disks: list[Disk], work: str, most: int) -> None:
+    """SQLite, which reads behind the look at the mark, takes half a page for a fault of the disk."""
     office = disks[0]
 
     def answer_while_short(at: int) -> Result:
@@ -451,7 +453,9 @@ def test_a_marked_log_that_is_read_in_parts_is_no_loss(disks: list[Disk], work: 
     wanted = answer_while_short(0)
     points = [at for at, kind in enumerate(office.calls(), 1) if kind == "r"][:most]
     assert wanted.status == 0 and points
-    assert {at: answer for at in points if (answer := answer_while_short(at)) != wanted} == {}
+    answers = {at: answer for at in points if (answer := answer_while_short(at)) != wanted}
+    assert answers.keys().isdisjoint(points[:READS_OF_A_LOOK])
+    assert {at: answer for at, answer in answers.items() if answer != fault("Disk")} == {}
 
 
 @pytest.mark.parametrize("step", [7, pytest.param(1, marks=pytest.mark.long)])
