@@ -37,9 +37,10 @@ def fill(folder: pathlib.Path, free: int) -> None:
     assert shutil.disk_usage(folder).free == free * BLOCK
 
 
-# Without room for a copy of the file, for what is read beside, and with room for all; and all about where a page just fits.
-ROOMS = [(False, 0, "en"), (True, 0, "de"), (True, 150, "en"), (True, 240, "de")]
-ALL = [pytest.param(True, free, "en", marks=pytest.mark.long) for free in range(180, 220)]
+# Without room for a copy of the file, for what is read beside, for the index of a log, and with room for all; and all
+# about where a page just fits.
+ROOMS = [(False, 0, "en"), (True, 0, "de"), (True, 150, "en"), (True, 195, "en"), (True, 240, "de")]
+ALL = [pytest.param(True, free, "en", marks=pytest.mark.long) for free in range(180, 220) if free != 195]
 
 
 @pytest.mark.parametrize("is_copied, free, language", [*ROOMS, *ALL])

@@ -1,5 +1,6 @@
 """A copy of an office's file as it stands at one moment, and a brief look at the file itself."""
 import contextlib
+import errno
 import os
 import sqlite3
 import time
@@ -12,6 +13,7 @@ from .office import Office
 
 TRIES = 5  # of a copy that is made while others work
 SETTLED = 20_000_000  # nanoseconds after which a later change of a file shows in its time
+NO_ROOM = "SQLITE_FULL", "SQLITE_IOERR_SHMSIZE"  # for a page, or for SQLite's index of a log
 IN_URI = str.maketrans({letter: f"%{ord(letter):02x}" for letter in "%?#"})
 Stamp = tuple[int, int, int]
 
@@ -120,6 +122,8 @@ def require_office(base: sqlite3.Connection, file: str) -> None:
     try:
         version = base.execute("SELECT value FROM meta WHERE name = 'toll'").fetchone()
     except sqlite3.Error as error:
+        if getattr(error, "sqlite_errorname", "") in NO_ROOM:
+            raise Failure(f"{file} can't be read: {os.strerror(errno.ENOSPC)}") from error
         raise Failure(f"{file} is no office: {error}", advice="look at the file's name") from error
     if version != (OFFICE_VERSION,):
         number = version[0] if version else "none"
